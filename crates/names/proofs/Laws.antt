@@ -271,11 +271,11 @@ lowered-next {s} {t} (offset a b c h) = elim (pred-next h) [ inl e ↦ inl (tupl
 
 -- ── rising rows of names ──
 
-and-0 : (a b : Bool) → a && b ≡ true → a ≡ true
+pub and-0 : (a b : Bool) → a && b ≡ true → a ≡ true
 and-0 true b e = refl
 and-0 false b e = e
 
-and-1 : (a b : Bool) → a && b ≡ true → b ≡ true
+pub and-1 : (a b : Bool) → a && b ≡ true → b ≡ true
 and-1 true b e = e
 and-1 false b e = absurd (let z : _≡_ {A = ℕ} 0 1 = cc in omega arith)
 

@@ -1,6 +1,7 @@
 // Names of lines and their order. Document 01, "Names"; the definitions are in specs/.
 ghost use mathlib.Core.Path.{_≡_};
-ghost use Prim.Native.Nat.{min};
+ghost use Prim.Native.Nat.{min, _≤_};
+ghost use lib.ListN.{length};
 ghost use Rattle.names.specs.Names.{limit, rowOf};
 ghost use Rattle.names.specs.Ordering.{compareℕ, compareℤ, then, compareTuples, compareRows};
 
@@ -79,6 +80,13 @@ fn clamped(depth: usize) -> usize
     ensures { λ r. ⌜ r ≡ min depth limit ⌝ }
 {
     if depth < LIMIT { depth } else { LIMIT }
+}
+
+// How many tuples a name has.
+pub fn tuples_in(a: Name) -> usize
+    ensures { λ r. ⌜ (r ≡ length (rowOf a)) × (r ≤ limit) ⌝ }
+{
+    clamped(a.depth)
 }
 
 // "Names compare at the first tuple that differs"; a proper prefix is smaller.

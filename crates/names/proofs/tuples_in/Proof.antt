@@ -1,0 +1,20 @@
+use mathlib.Core.Path.{_∙_}
+use native.Mathlib.Omega.{arith}
+use lib.ListN.{length-map, length-take}
+use borrow.Author.Needs.{needs}
+use Rattle.names.proofs.tuples_in.Statement.{statement}
+use Rattle.names.proofs.tuples_in.Tie as tie
+use Rattle.names.proofs.tuples_in.Reads as reads
+use Rattle.names.proofs.tuples_in.Lts as lts
+use Rattle.names.proofs.clamped.Reads as clamped-reads
+
+clamped-requires : tie.Need-clamped-requires
+clamped-requires c κs = search needs
+
+returns : tie.Need-returns
+returns c =
+    let l = simp length-map at (c .before .good .0 .1 .1 .1 .0 .1 .0 .1) in
+    (c .clamped .ensures ∙ simp length-take (omega (arith, l)), omega arith)
+
+pub tuples-in-spec : {M : Type 1} → statement M
+tuples-in-spec = tie.close (tie.spec clamped-requires returns)

@@ -1,0 +1,40 @@
+-- Tuples one after the other in a row of bytes. Assumes nothing.
+use mathlib.Core.Path.{_≡_, refl, _∙_, sym, ap}
+use mathlib.Core.List.{List, [], _∷_}
+use Prim.Native.Nat.{ℕ, zero, suc, _+_, _*_, _<_, _≤_}
+use native.Mathlib.Nat.{le-of-suc-le-suc, not-suc-le-zero}
+use native.Mathlib.Omega.{arith}
+use borrow.Author.Count.{below-more}
+use lib.ListN.{length, getD, set, take}
+use lib.Seq.{getD-set-same, getD-set-other, getD-take, length-take-le, ext-getD}
+use Rattle.names.specs.declared.Tuple.{Tuple}
+use Rattle.names.specs.Ordering.{Row}
+use Rattle.names.specs.Names.{m}
+use Rattle.slots.specs.Bytes.{Bytes, tupleAt, tuplesAt, tupleSize}
+
+pub length-tuplesAt : (s : Bytes) (p n : ℕ) → length (tuplesAt s p n) ≡ n
+length-tuplesAt s p zero = refl
+length-tuplesAt s p (suc n) = ap suc (length-tuplesAt s (p + tupleSize) n)
+
+pub getD-tuplesAt : (s : Bytes) (p n j : ℕ) → j < n → getD (tuplesAt s p n) j m ≡ tupleAt s (p + tupleSize * j)
+getD-tuplesAt s p zero j h = absurd (not-suc-le-zero h)
+getD-tuplesAt s p (suc n) zero h = ap (tupleAt s) (omega arith)
+getD-tuplesAt s p (suc n) (suc j) h = getD-tuplesAt s (p + tupleSize) n j (le-of-suc-le-suc h) ∙ ap (tupleAt s) (omega arith)
+
+pub take-tuplesAt : (s : Bytes) (p n k : ℕ) → k ≤ n → take k (tuplesAt s p n) ≡ tuplesAt s p k
+take-tuplesAt s p n zero h = refl
+take-tuplesAt s p zero (suc k) h = absurd (not-suc-le-zero h)
+take-tuplesAt s p (suc n) (suc k) h = ap (λ (l : Row). tupleAt s p ∷ l) (take-tuplesAt s (p + tupleSize) n k (le-of-suc-le-suc h))
+
+-- an array filled from the front: what holds below k holds below k + 1 after a store at k
+pub filled-more : {A : Type 0} (d : A) (P : ℕ → A) (l : List A) (k : ℕ) (v : A) → k < length l → ((j : ℕ) → j < k → getD l j d ≡ P j) → v ≡ P k → (j : ℕ) → j < k + 1 → getD (set l k v) j d ≡ P j
+filled-more d P l k v h f e =
+    below-more (λ j. getD (set l k v) j d ≡ P j) k
+    (λ j lt. getD-set-other l k j v d (λ q. omega arith) ∙ f j lt)
+    (getD-set-same l k v d h ∙ e)
+
+pub filled-all : (s : Bytes) (p n : ℕ) (l : Row) → n ≤ length l → ((j : ℕ) → j < n → getD l j m ≡ tupleAt s (p + tupleSize * j)) → take n l ≡ tuplesAt s p n
+filled-all s p n l h f =
+    let e = length-take-le n l h in
+    ext-getD m (take n l) (tuplesAt s p n) (e ∙ sym (length-tuplesAt s p n))
+    (λ i k. let k' : i < n = omega arith in getD-take n l i m k' ∙ f i k' ∙ sym (getD-tuplesAt s p n i k'))

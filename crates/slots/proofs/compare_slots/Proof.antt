@@ -1,0 +1,25 @@
+use mathlib.Core.Path.{_∙_}
+use Rattle.names.specs.Ordering.{compareRows}
+use borrow.Author.Needs.{needs}
+use Rattle.slots.proofs.compare_slots.Statement.{statement}
+use Rattle.slots.proofs.compare_slots.Tie as tie
+use Rattle.slots.proofs.compare_slots.Reads as reads
+use Rattle.slots.proofs.compare_slots.Lts as lts
+use Rattle.names.proofs.compare.Reads as compare-reads
+use Rattle.slots.proofs.read_name.Reads as read-name-reads
+
+read-name-requires : tie.Need-read-name-requires
+read-name-requires c κs = search needs
+
+read-name-requires-2 : tie.Need-read-name-requires-2
+read-name-requires-2 c κs = search needs
+
+compare-requires : tie.Need-compare-requires
+compare-requires c κs = search needs
+
+returns : tie.Need-returns
+returns c = c .compare .ensures ∙ (λ i. compareRows (c .before .before .read-name .ensures i) (c .before .read-name2 .ensures i))
+
+pub compare-slots-spec : {M : Type 1} → statement M
+compare-slots-spec =
+    tie.close (tie.spec read-name-requires read-name-requires-2 compare-requires returns)

@@ -1,0 +1,23 @@
+use mathlib.Core.Path.{_∙_, sym}
+use borrow.Author.Needs.{needs}
+use Rattle.slots.proofs.inner_at.Statement.{statement}
+use Rattle.slots.proofs.inner_at.Tie as tie
+use Rattle.slots.proofs.inner_at.Reads as reads
+use Rattle.slots.proofs.inner_at.Lts as lts
+use Rattle.slots.proofs.marker_at.Reads as marker-at-reads
+use Rattle.slots.proofs.ordinary_at.Reads as ordinary-at-reads
+
+ordinary-at-requires : tie.Need-ordinary-at-requires
+ordinary-at-requires c κs = search needs
+
+returns : tie.Need-returns
+returns c = simp (sym (c .before .ordinary-at .ensures) ∙ c .if1 .taken)
+
+marker-at-requires : tie.Need-marker-at-requires
+marker-at-requires c κs = search needs
+
+returns-2 : tie.Need-returns-2
+returns-2 c = simp (sym (c .before .before .ordinary-at .ensures) ∙ c .before .if1 .left) (c .marker-at .ensures)
+
+pub inner-at-spec : {M : Type 1} → statement M
+inner-at-spec = tie.close (tie.spec ordinary-at-requires returns marker-at-requires returns-2)

@@ -1,0 +1,33 @@
+use mathlib.Core.Path.{_∙_, sym}
+use mathlib.Core.Bool.{_&&_}
+use Prim.Native.Nat.{_+_}
+use denote.Ref.{now}
+use lib.Dec.{ltb}
+use Rattle.slots.specs.Bytes.{at32}
+use Rattle.slots.proofs.Sorts.{last-by}
+use borrow.Author.Needs.{needs}
+use Rattle.slots.proofs.last_at.Statement.{statement}
+use Rattle.slots.proofs.last_at.Tie as tie
+use Rattle.slots.proofs.last_at.Reads as reads
+use Rattle.slots.proofs.last_at.Lts as lts
+use Rattle.slots.proofs.ordinary_at.Reads as ordinary-at-reads
+use Rattle.slots.proofs.read_u32.Reads as read-u32-reads
+
+ordinary-at-requires : tie.Need-ordinary-at-requires
+ordinary-at-requires c κs = search needs
+
+add-read-u32 : tie.Need-add-read-u32
+add-read-u32 c = search needs
+
+read-u32-requires : tie.Need-read-u32-requires
+read-u32-requires c κs = search needs
+
+returns : tie.Need-returns
+returns c = sym (last-by (now (c .before .before .before .before .args .s)) (c .before .before .before .before .args .p) ∙ (λ i. (sym (c .before .before .ordinary-at .ensures) ∙ c .before .if1 .taken) i && ltb (sym (c .read-u32 .ensures) i) 2147483648))
+
+returns-2 : tie.Need-returns-2
+returns-2 c = sym (last-by (now (c .before .before .before .args .s)) (c .before .before .before .args .p) ∙ (λ i. (sym (c .before .ordinary-at .ensures) ∙ c .if1 .left) i && ltb (at32 (now (c .before .before .before .args .s)) (c .before .before .before .args .p + 8)) 2147483648))
+
+pub last-at-spec : {M : Type 1} → statement M
+last-at-spec =
+    tie.close (tie.spec ordinary-at-requires add-read-u32 read-u32-requires returns returns-2)

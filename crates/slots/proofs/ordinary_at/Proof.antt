@@ -1,0 +1,63 @@
+use mathlib.Core.Path.{_∙_, ap}
+use native.Mathlib.Omega.{arith}
+use denote.Ref.{now}
+use lib.IntN.{pos, negsuc}
+use Rattle.names.specs.Names.{withinℤ}
+use Rattle.slots.specs.Bytes.{signed}
+use Rattle.slots.proofs.Sorts.{low-position, high-position, no-node, by-offset}
+use borrow.Author.Needs.{needs}
+use Rattle.slots.proofs.ordinary_at.Statement.{statement}
+use Rattle.slots.proofs.ordinary_at.Tie as tie
+use Rattle.slots.proofs.ordinary_at.Reads as reads
+use Rattle.slots.proofs.ordinary_at.Lts as lts
+use Rattle.slots.proofs.offset_ok.Reads as offset-ok-reads
+use Rattle.slots.proofs.read_u16.Reads as read-u16-reads
+use Rattle.slots.proofs.read_u32.Reads as read-u32-reads
+
+read-u16-requires : tie.Need-read-u16-requires
+read-u16-requires c κs = search needs
+
+returns : tie.Need-returns
+returns c = low-position (now (c .before .before .before .args .s)) (c .before .before .before .args .p) (λ i. omega (arith, c .before .before .shared-slice-known .given i)) (omega arith)
+
+returns-2 : tie.Need-returns-2
+returns-2 c = high-position (now (c .before .before .before .before .args .s)) (c .before .before .before .before .args .p) (λ i. omega (arith, c .before .before .before .shared-slice-known .given i)) (omega arith) (omega arith)
+
+add-read-u16 : tie.Need-add-read-u16
+add-read-u16 c = search needs
+
+read-u16-requires-2 : tie.Need-read-u16-requires-2
+read-u16-requires-2 c κs = search needs
+
+returns-3 : tie.Need-returns-3
+returns-3 c = no-node (now (c .before .before .before .before .before .before .args .s)) (c .before .before .before .before .before .before .args .p) (λ i. omega (arith, c .before .before .before .before .before .shared-slice-known .given i)) (omega arith) (omega arith) (omega arith)
+
+add-read-u32 : tie.Need-add-read-u32
+add-read-u32 c = search needs
+
+read-u32-requires : tie.Need-read-u32-requires
+read-u32-requires c κs = search needs
+
+offset-ok-requires : tie.Need-offset-ok-requires
+offset-ok-requires c κs = search needs
+
+returns-4 : tie.Need-returns-4
+returns-4 c =
+    c .offset-ok .ensures
+    ∙ ap (λ o. withinℤ (negsuc 0) (pos 2147483646) (signed o)) (c .before .read-u32 .ensures)
+    ∙ by-offset (now (c .before .before .before .before .before .before .before .before .args .s)) (c .before .before .before .before .before .before .before .before .args .p) (λ i. omega (arith, c .before .before .before .before .before .before .before .shared-slice-known .given i)) (omega arith) (omega arith) (omega arith)
+
+pub ordinary-at-spec : {M : Type 1} → statement M
+ordinary-at-spec =
+    tie.close
+    (tie.spec
+    read-u16-requires
+    returns
+    returns-2
+    add-read-u16
+    read-u16-requires-2
+    returns-3
+    add-read-u32
+    read-u32-requires
+    offset-ok-requires
+    returns-4)

@@ -1,0 +1,22 @@
+use mathlib.Core.Path.{_∙_}
+use denote.Ref.{now}
+use Rattle.slots.proofs.Inside.{name-is}
+use borrow.Author.Needs.{needs}
+use Rattle.slots.proofs.read_name.Statement.{statement}
+use Rattle.slots.proofs.read_name.Tie as tie
+use Rattle.slots.proofs.read_name.Reads as reads
+use Rattle.slots.proofs.read_name.Lts as lts
+use Rattle.slots.proofs.depth.Reads as depth-reads
+use Rattle.slots.proofs.read_row.Reads as read-row-reads
+
+depth-requires : tie.Need-depth-requires
+depth-requires c κs = search needs
+
+read-row-requires : tie.Need-read-row-requires
+read-row-requires c κs = search needs
+
+returns : tie.Need-returns
+returns c = c .read-row .ensures ∙ name-is (now (c .before .before .before .args .s)) (c .before .depth .result) (c .before .depth .ensures)
+
+pub read-name-spec : {M : Type 1} → statement M
+read-name-spec = tie.close (tie.spec depth-requires read-row-requires returns)

@@ -1,0 +1,32 @@
+use mathlib.Core.Path.{_≡_, refl, _∙_, sym, ap}
+use Prim.Native.Nat.{ℕ, _+_, _*_, _-_, _<_, _≤_}
+use native.Mathlib.Omega.{arith}
+use denote.Ref.{now}
+use lib.ListN.{getD}
+use Rattle.slots.proofs.Numbers.{turn-low}
+use borrow.Author.Needs.{needs}
+use Rattle.slots.proofs.read_u32.Statement.{statement}
+use Rattle.slots.proofs.read_u32.Tie as tie
+use Rattle.slots.proofs.read_u32.Reads as reads
+use Rattle.slots.proofs.read_u32.Lts as lts
+use Rattle.slots.proofs.read_low32.Reads as read-low32-reads
+use Rattle.slots.proofs.turned32.Reads as turned32-reads
+
+read-low32-requires : tie.Need-read-low32-requires
+read-low32-requires c κs = search needs
+
+turned32-requires : tie.Need-turned32-requires
+turned32-requires c κs = search needs
+
+returns : tie.Need-returns
+returns c =
+    let s = now (c .before .before .before .args .s) in
+    let p = c .before .before .before .args .p in
+    let k : (i : ℕ) → getD s i 0 < 256 = λ i. omega (arith, c .before .before .shared-slice-known .given i) in
+    let q : p + 3 ≡ p + 2 + 1 = omega arith in
+    c .turned32 .ensures
+    ∙ turn-low (c .before .read-low32 .result) (getD s p 0) (getD s (p + 1) 0) (getD s (p + 2) 0) (getD s (p + 3) 0) (c .before .read-low32 .ensures) (k p) (k (p + 1)) (k (p + 2)) (k (p + 3))
+    ∙ ap (λ (j : ℕ). (getD s p 0 * 256 + getD s (p + 1) 0) * 65536 + (getD s (p + 2) 0 * 256 + getD s j 0)) q
+
+pub read-u32-spec : {M : Type 1} → statement M
+read-u32-spec = tie.close (tie.spec read-low32-requires turned32-requires returns)

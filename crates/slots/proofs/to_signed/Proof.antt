@@ -1,0 +1,46 @@
+use mathlib.Core.Path.{_≡_, refl, _∙_, ap}
+use Prim.Native.Nat.{ℕ, zero, suc, _-_, _<_, _≤_, _^_}
+use native.Mathlib.Nat.{zero-add}
+use native.Mathlib.Omega.{arith}
+use borrow.Author.Needs.{needs}
+use borrow.Author.Tests.{lt-ltb, le-ltb}
+use lib.IntN.{ℤ, pos, negsuc, _-ℤ_}
+use mir.Syntax.{w32}
+use mir.Val.{toZ, ofZ, SFits}
+use mir.ValLaws.{toZ-pos, toZ-ofZ}
+use Rattle.slots.proofs.to_signed.Statement.{statement}
+use Rattle.slots.proofs.to_signed.Tie as tie
+
+minus : (n : ℕ) → negsuc 0 -ℤ pos n ≡ negsuc n
+minus zero = refl
+minus (suc n) = ap (λ (k : ℕ). negsuc (suc k)) (zero-add n)
+
+minus-bits : (n : ℕ) → n < 2 ^ 31 → negsuc 0 -ℤ toZ w32 n ≡ negsuc n
+minus-bits n h = rw (toZ-pos w32 n h) (minus n)
+
+cast-result : tie.Need-cast-result
+cast-result c = search needs
+
+returns : tie.Need-returns
+returns c = simp (lt-ltb _ _ (c .if1 .taken))
+
+sub-low : tie.Need-sub-low
+sub-low c = search needs
+
+cast-result-2 : tie.Need-cast-result-2
+cast-result-2 c = search needs
+
+sub-result : tie.Need-sub-result
+sub-result c =
+    let h : 4294967295 - c .before .args .v < 2 ^ 31 = omega arith in
+    rw (minus-bits (4294967295 - c .before .args .v) h) (record { sfits = h })
+
+returns-2 : tie.Need-returns-2
+returns-2 c =
+    let v = c .before .args .v in
+    let h : 4294967295 - v < 2 ^ 31 = omega arith in
+    rw (minus-bits (4294967295 - v) h, le-ltb v 2147483648 (c .if1 .left)) (toZ-ofZ w32 (negsuc (4294967295 - v)) (record { sfits = h }))
+
+pub to-signed-spec : {M : Type 1} → statement M
+to-signed-spec =
+    tie.close (tie.spec cast-result returns sub-low cast-result-2 sub-result returns-2)

@@ -1,0 +1,81 @@
+use mathlib.Core.Path.{_≡_, _∙_, ap}
+use Prim.Native.Nat.{ℕ, suc, _+_}
+use native.Mathlib.Omega.{arith}
+use denote.Ref.{now}
+use lib.ListN.{length-set}
+use lib.Seq.{sets-eq}
+use Rattle.slots.specs.Bytes.{put}
+use Rattle.slots.proofs.Written.{low, low-turned}
+use borrow.Author.Needs.{needs}
+use Rattle.slots.proofs.write_u32.Statement.{statement}
+use Rattle.slots.proofs.write_u32.Tie as tie
+use Rattle.slots.proofs.write_u32.Reads as reads
+use Rattle.slots.proofs.write_u32.Lts as lts
+use Rattle.slots.proofs.turned32.Reads as turned32-reads
+
+turned32-requires : tie.Need-turned32-requires
+turned32-requires c κs = search needs
+
+cast-out : tie.Need-cast-out
+cast-out c = search needs
+
+slice-write-out : tie.Need-slice-write-out
+slice-write-out c = search needs
+
+cast-out-2 : tie.Need-cast-out-2
+cast-out-2 c = search needs
+
+add-out : tie.Need-add-out
+add-out c = search needs
+
+slice-write-out-2 : tie.Need-slice-write-out-2
+slice-write-out-2 c = simp length-set (omega arith)
+
+cast-out-3 : tie.Need-cast-out-3
+cast-out-3 c = search needs
+
+add-out-2 : tie.Need-add-out-2
+add-out-2 c = search needs
+
+slice-write-out-3 : tie.Need-slice-write-out-3
+slice-write-out-3 c = simp length-set (omega arith)
+
+cast-out-4 : tie.Need-cast-out-4
+cast-out-4 c = search needs
+
+add-out-3 : tie.Need-add-out-3
+add-out-3 c = search needs
+
+slice-write-out-4 : tie.Need-slice-write-out-4
+slice-write-out-4 c = simp length-set (omega arith)
+
+same-length : tie.Need-same-length
+same-length c = search needs
+
+returns : tie.Need-returns
+returns c =
+    let p = c .before .before .args .p in
+    let x = c .turned32 .result in
+    let e1 : p + 1 ≡ suc p = omega arith in
+    let e2 : p + 2 ≡ suc (suc p) = omega arith in
+    let e3 : p + 3 ≡ suc (suc (suc p)) = omega arith in
+    rw (e1, e2, e3) (sets-eq (low x) (now (c .before .before .args .out)) p (c .before .before .pre)) ∙ ap (put (now (c .before .before .args .out)) p) (low-turned (c .before .before .args .v) x (omega arith) (c .turned32 .ensures))
+
+pub write-u32-spec : {M : Type 1} → statement M
+write-u32-spec =
+    tie.close
+    (tie.spec
+    turned32-requires
+    cast-out
+    slice-write-out
+    cast-out-2
+    add-out
+    slice-write-out-2
+    cast-out-3
+    add-out-2
+    slice-write-out-3
+    cast-out-4
+    add-out-3
+    slice-write-out-4
+    same-length
+    returns)

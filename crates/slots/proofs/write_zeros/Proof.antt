@@ -1,0 +1,73 @@
+use mathlib.Core.Path.{_≡_, refl, _∙_, sym, ap}
+use mathlib.Core.List.{[], _∷_}
+use Prim.Native.Nat.{ℕ, _+_, _*_, _-_, _<_, _≤_}
+use native.Mathlib.Omega.{arith}
+use denote.Ref.{now}
+use lib.ListN.{length, replicate, length-replicate}
+use Rattle.slots.specs.Bytes.{put}
+use Rattle.slots.proofs.Put.{put-more, put-none}
+use Rattle.slots.proofs.Written.{zeros-on}
+use Rattle.slots.proofs.write_zeros.Statement.{statement}
+use Rattle.slots.proofs.write_zeros.Tie as tie
+use Rattle.slots.proofs.write_zeros.Reads as reads
+use Rattle.slots.proofs.write_zeros.Lts as lts
+use Rattle.slots.proofs.write_u32.Reads as write-u32-reads
+
+abbrev Inv-loop : tie.InvT-loop
+Inv-loop out₀ p n k₀ out k = (k ≤ n) × (length out ≡ length out₀) × (out ≡ put out₀ p (replicate (4 * k) 0))
+
+abbrev μ-loop : tie.MeasureT-loop
+μ-loop out₀ p n k₀ out k = n - k
+
+loop-holds : tie.Need-loop-holds Inv-loop μ-loop
+loop-holds c = (omega arith, refl, put-none (now (c .before .args .out)) (c .before .args .p))
+
+mul-write-u32 : tie.Need-mul-write-u32 Inv-loop μ-loop
+mul-write-u32 c = omega arith
+
+add-write-u32 : tie.Need-add-write-u32 Inv-loop μ-loop
+add-write-u32 c = omega arith
+
+write-u32-requires : tie.Need-write-u32-requires Inv-loop μ-loop
+write-u32-requires c κs = omega arith
+
+add-k : tie.Need-add-k Inv-loop μ-loop
+add-k c = omega arith
+
+loop-less : tie.Need-loop-less Inv-loop μ-loop
+loop-less c = omega arith
+
+loop-again : tie.Need-loop-again Inv-loop μ-loop
+loop-again c =
+    let v = c .before .before .before .before .before .loop .inv in
+    let o = now (c .before .before .before .before .before .before .before .args .out) in
+    let p = c .before .before .before .before .before .before .before .args .p in
+    let k = c .before .before .before .before .before .loop .k in
+    let q : p + 4 * k ≡ p + length (replicate {A = ℕ} (4 * k) 0) = ap (λ (n : ℕ). p + n) (sym (length-replicate (4 * k) 0)) in
+    let d = put-more o p (omega arith) (replicate (4 * k) 0) (0 ∷ 0 ∷ 0 ∷ 0 ∷ []) (v .2) q (c .before .before .write-u32 .ensures) in
+    (omega arith, c .before .before .write-u32 .kept .0 ∙ v .1, d ∙ sym (ap (put o p) (zeros-on k)))
+
+same-length : tie.Need-same-length Inv-loop μ-loop
+same-length c = c .before .loop .inv .1
+
+returns : tie.Need-returns Inv-loop μ-loop
+returns c =
+    let v = c .before .loop .inv in
+    let e : c .before .loop .k ≡ c .before .before .before .args .n = omega arith in
+    v .2 ∙ ap (λ (n : ℕ). put (now (c .before .before .before .args .out)) (c .before .before .before .args .p) (replicate (4 * n) 0)) e
+
+pub write-zeros-spec : {M : Type 1} → statement M
+write-zeros-spec =
+    tie.close
+    (tie.spec
+    Inv-loop
+    μ-loop
+    loop-holds
+    mul-write-u32
+    add-write-u32
+    write-u32-requires
+    add-k
+    loop-less
+    loop-again
+    same-length
+    returns)

@@ -1,0 +1,64 @@
+use mathlib.Core.Path.{_≡_, _∙_, sym, ap}
+use mathlib.Core.Bool.{true}
+use Prim.Native.Nat.{ℕ, _+_, _*_, _≤_}
+use native.Mathlib.Omega.{arith}
+use denote.Ref.{now}
+use lib.ListN.{drop}
+use Rattle.names.specs.Names.{limit}
+use Rattle.slots.specs.Bytes.{allZero, isZero, tupleSize}
+use Rattle.slots.specs.Slots.{headSize}
+use Rattle.slots.proofs.Zeros.{every-end, zeros-more, zeros-fail}
+use Rattle.slots.proofs.zero_after.Statement.{statement}
+use Rattle.slots.proofs.zero_after.Tie as tie
+use Rattle.slots.proofs.zero_after.Reads as reads
+use Rattle.slots.proofs.zero_after.Lts as lts
+use Rattle.slots.proofs.zero_at.Reads as zero-at-reads
+
+abbrev Inv-loop : tie.InvT-loop
+Inv-loop s d k₀ k = (d ≤ k) × (k ≤ limit) × (allZero (drop (headSize + tupleSize * k) s) ≡ true)
+
+abbrev μ-loop : tie.MeasureT-loop
+μ-loop s d k₀ k = k
+
+loop-holds : tie.Need-loop-holds Inv-loop μ-loop
+loop-holds c = (omega arith, omega arith, sym (every-end isZero (now (c .before .args .s)) (headSize + tupleSize * limit) (omega arith)))
+
+sub-k : tie.Need-sub-k Inv-loop μ-loop
+sub-k c = omega arith
+
+mul-zero-at : tie.Need-mul-zero-at Inv-loop μ-loop
+mul-zero-at c = omega arith
+
+add-zero-at : tie.Need-add-zero-at Inv-loop μ-loop
+add-zero-at c = omega arith
+
+zero-at-requires : tie.Need-zero-at-requires Inv-loop μ-loop
+zero-at-requires c κs = omega arith
+
+loop-less : tie.Need-loop-less Inv-loop μ-loop
+loop-less c = omega arith
+
+loop-again : tie.Need-loop-again Inv-loop μ-loop
+loop-again c = (omega arith, omega arith, zeros-more (now (c .before .before .before .before .before .args .s)) (c .before .before .before .loop .k) (omega arith) (sym (c .if2 .taken) ∙ c .before .zero-at .ensures) (c .before .before .before .loop .inv .2))
+
+returns : tie.Need-returns Inv-loop μ-loop
+returns c = let e : c .before .loop .k ≡ c .before .before .before .args .d = omega arith in sym (c .before .loop .inv .2) ∙ ap (λ (k : ℕ). allZero (drop (headSize + tupleSize * k) (now (c .before .before .before .args .s)))) e
+
+returns-2 : tie.Need-returns-2 Inv-loop μ-loop
+returns-2 c = zeros-fail (now (c .before .before .before .before .before .args .s)) (c .before .before .before .loop .k) (omega arith) (c .before .before .before .before .before .args .d) (omega arith) (sym (c .if2 .left) ∙ c .before .zero-at .ensures)
+
+pub zero-after-spec : {M : Type 1} → statement M
+zero-after-spec =
+    tie.close
+    (tie.spec
+    Inv-loop
+    μ-loop
+    loop-holds
+    sub-k
+    mul-zero-at
+    add-zero-at
+    zero-at-requires
+    loop-less
+    loop-again
+    returns
+    returns-2)

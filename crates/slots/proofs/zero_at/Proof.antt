@@ -1,0 +1,35 @@
+use mathlib.Core.Path.{_∙_, sym}
+use mathlib.Core.Bool.{_&&_}
+use Prim.Native.Nat.{_+_}
+use native.Mathlib.Omega.{arith}
+use denote.Ref.{now}
+use lib.Dec.{eqb}
+use borrow.Author.Tests.{eq-eqb, ne-eqb}
+use Rattle.slots.specs.Bytes.{at32, at64}
+use Rattle.slots.proofs.Zeros.{zero96}
+use borrow.Author.Needs.{needs}
+use Rattle.slots.proofs.zero_at.Statement.{statement}
+use Rattle.slots.proofs.zero_at.Tie as tie
+use Rattle.slots.proofs.zero_at.Reads as reads
+use Rattle.slots.proofs.zero_at.Lts as lts
+use Rattle.slots.proofs.read_u32.Reads as read-u32-reads
+use Rattle.slots.proofs.read_u64.Reads as read-u64-reads
+
+read-u64-requires : tie.Need-read-u64-requires
+read-u64-requires c κs = search needs
+
+add-read-u32 : tie.Need-add-read-u32
+add-read-u32 c = search needs
+
+read-u32-requires : tie.Need-read-u32-requires
+read-u32-requires c κs = search needs
+
+returns : tie.Need-returns
+returns c = sym (zero96 (now (c .before .before .before .before .args .s)) (c .before .before .before .before .args .p) (omega arith) ∙ (λ i. eq-eqb (at64 (now (c .before .before .before .before .args .s)) (c .before .before .before .before .args .p)) 0 (omega arith) i && eqb (sym (c .read-u32 .ensures) i) 0))
+
+returns-2 : tie.Need-returns-2
+returns-2 c = sym (zero96 (now (c .before .before .before .args .s)) (c .before .before .before .args .p) (omega arith) ∙ (λ i. ne-eqb (at64 (now (c .before .before .before .args .s)) (c .before .before .before .args .p)) 0 (λ e. c .if1 .left (c .before .read-u64 .ensures ∙ e)) i && eqb (at32 (now (c .before .before .before .args .s)) (c .before .before .before .args .p + 8)) 0))
+
+pub zero-at-spec : {M : Type 1} → statement M
+zero-at-spec =
+    tie.close (tie.spec read-u64-requires add-read-u32 read-u32-requires returns returns-2)

@@ -1,0 +1,363 @@
+// Slots as bytes: numbers, tuples and names read where they stand, the check of a slot's layout, and a slot written.
+// Document 01, "Pages, logs, epochs"; the definitions are in specs/.
+ghost use mathlib.Core.Path.{_≡_};
+ghost use mathlib.Core.Bool.{_||_};
+ghost use Prim.Native.Nat.{_+_, _*_, _/_, _%_, _≤_, _<_, min};
+ghost use mathlib.Core.List.{[], _∷_};
+ghost use lib.ListN.{length, take, drop, getD, replicate};
+ghost use lib.IntN.{pos, negsuc};
+ghost use Rattle.names.specs.Ordering.{compareRows};
+ghost use Rattle.names.specs.Names.{limit, rowOf, ordinary, ordinaryFrom, marker, isName, withinℤ};
+ghost use Rattle.slots.specs.Bytes.{at16, at32, at64, signed, unsigned, tupleAt, tuplesAt, tupleSize, allZero, bytes32, tupleBytes, rowBytes, put};
+ghost use Rattle.slots.specs.Slots.{headSize, slotSize, depthOf, nameOf, keepsSlot, slotBytes};
+use names::LIMIT;
+use names::Name;
+use names::Order;
+use names::Tuple;
+
+// The bytes of a tuple; of depth, three zeros and line number; and of a slot.
+pub const TUPLE: usize = 12;
+
+pub const HEAD: usize = 8;
+
+pub const SLOT: usize = HEAD + TUPLE * LIMIT;
+
+fn wide16(x: u8) -> u16
+    ensures { λ r. ⌜ (r ≡ x) × (r < 256) ⌝ }
+{
+    x as u16
+}
+
+fn wide32(x: u8) -> u32
+    ensures { λ r. ⌜ (r ≡ x) × (r < 256) ⌝ }
+{
+    x as u32
+}
+
+fn wide64(x: u32) -> u64
+    ensures { λ r. ⌜ (r ≡ x) × (r < 4294967296) ⌝ }
+{
+    x as u64
+}
+
+// The big-endian number of two bytes.
+pub fn read_u16(s: &[u8], p: usize) -> u16
+    requires { ⌜ p + 2 ≤ length (now s) ⌝ }
+    ensures { λ r. ⌜ r ≡ at16 (now (s .entry)) p ⌝ }
+{
+    wide16(s[p]) * 256 + wide16(s[p + 1])
+}
+
+// Four bytes as one number, the lowest first: the compiler makes one load of this sum.
+fn read_low32(s: &[u8], p: usize) -> u32
+    requires { ⌜ p + 4 ≤ length (now s) ⌝ }
+    ensures { λ r. ⌜ r ≡ getD (now (s .entry)) p 0 + getD (now (s .entry)) (p + 1) 0 * 256 + getD (now (s .entry)) (p + 2) 0 * 65536 + getD (now (s .entry)) (p + 3) 0 * 16777216 ⌝ }
+{
+    wide32(s[p]) + wide32(s[p + 1]) * 256 + wide32(s[p + 2]) * 65536 + wide32(s[p + 3]) * 16777216
+}
+
+// The four bytes of a number turned round: the compiler makes a byte swap of this sum.
+fn turned32(x: u32) -> u32
+    ensures { λ r. ⌜ r ≡ x % 256 * 16777216 + x / 256 % 256 * 65536 + x / 65536 % 256 * 256 + x / 16777216 ⌝ }
+{
+    x % 256 * 16777216 + x / 256 % 256 * 65536 + x / 65536 % 256 * 256 + x / 16777216
+}
+
+// The big-endian number of four bytes.
+pub fn read_u32(s: &[u8], p: usize) -> u32
+    requires { ⌜ p + 4 ≤ length (now s) ⌝ }
+    ensures { λ r. ⌜ r ≡ at32 (now (s .entry)) p ⌝ }
+{
+    turned32(read_low32(s, p))
+}
+
+// The big-endian number of eight bytes: position, node and sequence of a tuple at once.
+fn read_u64(s: &[u8], p: usize) -> u64
+    requires { ⌜ p + 8 ≤ length (now s) ⌝ }
+    ensures { λ r. ⌜ r ≡ at64 (now (s .entry)) p ⌝ }
+{
+    wide64(read_u32(s, p)) * 4294967296 + wide64(read_u32(s, p + 4))
+}
+
+// "offsets in two's complement"
+fn to_signed(v: u32) -> i32
+    ensures { λ r. ⌜ r ≡ signed v ⌝ }
+{
+    if v < 2147483648 {
+        return v as i32;
+    }
+    let low = 4294967295 - v;
+    -1 - (low as i32)
+}
+
+pub fn read_tuple(s: &[u8], p: usize) -> Tuple
+    requires { ⌜ p + tupleSize ≤ length (now s) ⌝ }
+    ensures { λ r. ⌜ r ≡ tupleAt (now (s .entry)) p ⌝ }
+{
+    let position = read_u16(s, p);
+    let node = read_u16(s, p + 2);
+    let sequence = read_u32(s, p + 4);
+    let offset = to_signed(read_u32(s, p + 8));
+    Tuple {
+        position,
+        node,
+        sequence,
+        offset,
+    }
+}
+
+// The name of the n tuples from p on.
+pub fn read_row(s: &[u8], p: usize, n: usize) -> Name
+    requires { ⌜ (n ≤ limit) × (p + tupleSize * n ≤ length (now s)) ⌝ }
+    ensures { λ r. ⌜ rowOf r ≡ tuplesAt (now (s .entry)) p n ⌝ }
+{
+    let zero = Tuple {
+        position: 0,
+        node: 0,
+        sequence: 0,
+        offset: 0,
+    };
+    let mut tuples = [zero; LIMIT];
+    let mut k: usize = 0;
+    while k < n {
+        tuples[k] = read_tuple(s, p + TUPLE * k);
+        k += 1;
+    }
+    Name { depth: n, tuples }
+}
+
+// How many of a slot's tuples are the name's.
+pub fn depth(s: &[u8]) -> usize
+    requires { ⌜ 0 < length (now s) ⌝ }
+    ensures { λ r. ⌜ r ≡ min (depthOf (now (s .entry))) limit ⌝ }
+{
+    let d = s[0] as usize;
+    if d < LIMIT { d } else { LIMIT }
+}
+
+// The name in a slot.
+pub fn read_name(s: &[u8]) -> Name
+    requires { ⌜ length (now s) ≡ slotSize ⌝ }
+    ensures { λ r. ⌜ rowOf r ≡ nameOf (now (s .entry)) ⌝ }
+{
+    read_row(s, HEAD, depth(s))
+}
+
+// The names of two slots compared. Everything that compares slots goes through here.
+pub fn compare_slots(a: &[u8], b: &[u8]) -> Order
+    requires { ⌜ (length (now a) ≡ slotSize) × (length (now b) ≡ slotSize) ⌝ }
+    ensures { λ r. ⌜ r ≡ compareRows (nameOf (now (a .entry))) (nameOf (now (b .entry))) ⌝ }
+{
+    names::compare(read_name(a), read_name(b))
+}
+
+// Offsets -1..2147483646, by their bits.
+fn offset_ok(o: u32) -> bool
+    ensures { λ r. ⌜ r ≡ withinℤ (negsuc 0) (pos 2147483646) (signed o) ⌝ }
+{
+    std::num::wrapping_add_u32(o, 1) <= 2147483647
+}
+
+// An ordinary tuple stands at p.
+fn ordinary_at(s: &[u8], p: usize) -> bool
+    requires { ⌜ p + tupleSize ≤ length (now s) ⌝ }
+    ensures { λ r. ⌜ r ≡ ordinary (tupleAt (now (s .entry)) p) ⌝ }
+{
+    let position = read_u16(s, p);
+    if position < 1 {
+        return false;
+    }
+    if 65534 < position {
+        return false;
+    }
+    if read_u16(s, p + 2) < 1 {
+        return false;
+    }
+    offset_ok(read_u32(s, p + 8))
+}
+
+// An ordinary tuple with an offset of at least 0 stands at p.
+fn last_at(s: &[u8], p: usize) -> bool
+    requires { ⌜ p + tupleSize ≤ length (now s) ⌝ }
+    ensures { λ r. ⌜ r ≡ ordinaryFrom (pos 0) (tupleAt (now (s .entry)) p) ⌝ }
+{
+    if ordinary_at(s, p) {
+        read_u32(s, p + 8) < 2147483648
+    } else {
+        false
+    }
+}
+
+// One of the two end markers stands at p.
+fn marker_at(s: &[u8], p: usize) -> bool
+    requires { ⌜ p + tupleSize ≤ length (now s) ⌝ }
+    ensures { λ r. ⌜ r ≡ marker (tupleAt (now (s .entry)) p) ⌝ }
+{
+    let front = read_u64(s, p);
+    let offset = read_u32(s, p + 8);
+    if front == 0 {
+        return offset == 0;
+    }
+    if front == 18446744073709551615 {
+        return offset == 2147483647;
+    }
+    false
+}
+
+// A tuple that may stand within a name, before its last: an ordinary one or a marker.
+fn inner_at(s: &[u8], p: usize) -> bool
+    requires { ⌜ p + tupleSize ≤ length (now s) ⌝ }
+    ensures { λ r. ⌜ r ≡ (ordinary (tupleAt (now (s .entry)) p) || marker (tupleAt (now (s .entry)) p)) ⌝ }
+{
+    if ordinary_at(s, p) {
+        return true;
+    }
+    marker_at(s, p)
+}
+
+// The n tuples from p on are a name.
+pub fn name_at(s: &[u8], p: usize, n: usize) -> bool
+    requires { ⌜ (1 ≤ n) × (n ≤ limit) × (p + tupleSize * n ≤ length (now s)) ⌝ }
+    ensures { λ r. ⌜ r ≡ isName (tuplesAt (now (s .entry)) p n) ⌝ }
+{
+    if ordinary_at(s, p) {
+        let mut i: usize = 0;
+        loop {
+            if n <= i + 1 {
+                break last_at(s, p + TUPLE * i);
+            }
+            if inner_at(s, p + TUPLE * i) {
+                i += 1;
+            } else {
+                break false;
+            }
+        }
+    } else {
+        false
+    }
+}
+
+// The bytes of a tuple's place are zero.
+fn zero_at(s: &[u8], p: usize) -> bool
+    requires { ⌜ p + tupleSize ≤ length (now s) ⌝ }
+    ensures { λ r. ⌜ r ≡ allZero (take tupleSize (drop p (now (s .entry)))) ⌝ }
+{
+    if read_u64(s, p) == 0 {
+        read_u32(s, p + 8) == 0
+    } else {
+        false
+    }
+}
+
+// The tuples of a slot from d on are zero, looked at from the last.
+fn zero_after(s: &[u8], d: usize) -> bool
+    requires { ⌜ (length (now s) ≡ slotSize) × (d ≤ limit) ⌝ }
+    ensures { λ r. ⌜ r ≡ allZero (drop (headSize + tupleSize * d) (now (s .entry))) ⌝ }
+{
+    let mut k: usize = LIMIT;
+    loop {
+        if k <= d {
+            break true;
+        }
+        k -= 1;
+        if zero_at(s, HEAD + TUPLE * k) {
+        } else {
+            break false;
+        }
+    }
+}
+
+// "A slot is 104 bytes: depth 1..8, three zero bytes, line number (u32, any value, repeats allowed), then eight tuples of
+// 12 bytes, the first depth of them a name, the rest all zero."
+pub fn slot_ok(s: &[u8]) -> bool
+    requires { ⌜ length (now s) ≡ slotSize ⌝ }
+    ensures { λ r. ⌜ r ≡ keepsSlot (now (s .entry)) ⌝ }
+{
+    let d = s[0] as usize;
+    if d < 1 {
+        return false;
+    }
+    if LIMIT < d {
+        return false;
+    }
+    if s[1] != 0 {
+        return false;
+    }
+    if read_u16(s, 2) != 0 {
+        return false;
+    }
+    if name_at(s, HEAD, d) {
+        zero_after(s, d)
+    } else {
+        false
+    }
+}
+
+// "All numbers are big-endian": four bytes from p on. The four stores of the number turned round are one store.
+pub fn write_u32(out: &mut [u8], p: usize, v: u32)
+    requires { ⌜ p + 4 ≤ length (now out) ⌝ }
+    ensures { λ _. ⌜ now (out .exit) ≡ put (now (out .entry)) p (bytes32 v) ⌝ }
+{
+    let x = turned32(v);
+    out[p] = (x % 256) as u8;
+    out[p + 1] = (x / 256 % 256) as u8;
+    out[p + 2] = (x / 65536 % 256) as u8;
+    out[p + 3] = (x / 16777216) as u8;
+}
+
+// "offsets in two's complement"
+fn to_unsigned(z: i32) -> u32
+    ensures { λ r. ⌜ r ≡ unsigned z ⌝ }
+{
+    if 0 <= z {
+        return z as u32;
+    }
+    4294967295 - ((-1 - z) as u32)
+}
+
+pub fn write_tuple(out: &mut [u8], p: usize, t: Tuple)
+    requires { ⌜ p + tupleSize ≤ length (now out) ⌝ }
+    ensures { λ _. ⌜ now (out .exit) ≡ put (now (out .entry)) p (tupleBytes t) ⌝ }
+{
+    write_u32(out, p, (t.position as u32) * 65536 + (t.node as u32));
+    write_u32(out, p + 4, t.sequence);
+    write_u32(out, p + 8, to_unsigned(t.offset));
+}
+
+// The tuples of a name, one after the other from p on.
+pub fn write_row(out: &mut [u8], p: usize, a: Name)
+    requires { ⌜ p + tupleSize * length (rowOf a) ≤ length (now out) ⌝ }
+    ensures { λ _. ⌜ now (out .exit) ≡ put (now (out .entry)) p (rowBytes (rowOf a)) ⌝ }
+{
+    let ts = a.tuples;
+    let n = names::tuples_in(a);
+    let mut k: usize = 0;
+    while k < n {
+        write_tuple(out, p + TUPLE * k, ts[k]);
+        k += 1;
+    }
+}
+
+// Zeros for n words of four bytes from p on.
+fn write_zeros(out: &mut [u8], p: usize, n: usize)
+    requires { ⌜ p + 4 * n ≤ length (now out) ⌝ }
+    ensures { λ _. ⌜ now (out .exit) ≡ put (now (out .entry)) p (replicate (4 * n) 0) ⌝ }
+{
+    let mut k: usize = 0;
+    while k < n {
+        write_u32(out, p + 4 * k, 0);
+        k += 1;
+    }
+}
+
+// A slot from p on: its depth, three zeros, the line number, the name's tuples, and zeros.
+pub fn write_slot(out: &mut [u8], p: usize, line: u32, a: Name)
+    requires { ⌜ p + slotSize ≤ length (now out) ⌝ }
+    ensures { λ _. ⌜ now (out .exit) ≡ put (now (out .entry)) p (slotBytes (record { line = line; name = rowOf a })) ⌝ }
+{
+    let d = names::tuples_in(a);
+    write_u32(out, p, (d as u32) * 16777216);
+    write_u32(out, p + 4, line);
+    write_row(out, p + HEAD, a);
+    write_zeros(out, p + HEAD + TUPLE * d, 3 * (LIMIT - d));
+}

@@ -1,0 +1,183 @@
+#include "book.h"
+
+#include <string.h>
+
+/* "All numbers are big-endian" */
+
+static uint32_t read_number(const uint8_t *bytes, size_t count)
+{
+    uint32_t number = 0;
+    for (size_t i = 0; i < count; i++)
+        number = number << 8 | bytes[i];
+    return number;
+}
+
+static void write_number(uint8_t *bytes, size_t count, uint32_t number)
+{
+    for (size_t i = count; i > 0; i--) {
+        bytes[i - 1] = (uint8_t)(number & 255);
+        number >>= 8;
+    }
+}
+
+/* "offsets in two's complement" */
+static int32_t signed_number(uint32_t bits)
+{
+    return bits <= INT32_MAX ? (int32_t)bits : (int32_t)((int64_t)bits - ((int64_t)1 << 32));
+}
+
+static bool all_zero(const uint8_t *bytes, size_t count)
+{
+    for (size_t i = 0; i < count; i++)
+        if (bytes[i] != 0)
+            return false;
+    return true;
+}
+
+/* "Tuples compare by position, node, sequence, offset, in that order, offset signed." */
+
+static int compare_numbers(int64_t a, int64_t b)
+{
+    return (a > b) - (a < b);
+}
+
+int compare_tuples(Tuple a, Tuple b)
+{
+    if (a.position != b.position)
+        return compare_numbers(a.position, b.position);
+    if (a.node != b.node)
+        return compare_numbers(a.node, b.node);
+    if (a.sequence != b.sequence)
+        return compare_numbers(a.sequence, b.sequence);
+    return compare_numbers(a.offset, b.offset);
+}
+
+/* "Names compare at the first tuple that differs; a proper prefix is smaller" */
+int compare_names(const Name *a, const Name *b)
+{
+    for (size_t i = 0; i < a->depth && i < b->depth; i++) {
+        int order = compare_tuples(a->tuples[i], b->tuples[i]);
+        if (order != 0)
+            return order;
+    }
+    return compare_numbers((int64_t)a->depth, (int64_t)b->depth);
+}
+
+/* "An ordinary tuple has position 1..65534, node 1..65535, any sequence, offset -1..2147483646." */
+bool is_ordinary(Tuple t)
+{
+    return 1 <= t.position && t.position <= 65534 && 1 <= t.node && -1 <= t.offset && t.offset <= 2147483646;
+}
+
+/* "m = (0, 0, 0, 0) and M = (65535, 65535, 4294967295, 2147483647)" */
+bool is_marker(Tuple t)
+{
+    const Tuple low = {0, 0, 0, 0};
+    const Tuple high = {65535, 65535, 4294967295, 2147483647};
+    return compare_tuples(t, low) == 0 || compare_tuples(t, high) == 0;
+}
+
+/* "The first and last tuples are ordinary, the last has offset at least 0, and markers may stand only between." */
+bool is_name(const Name *name)
+{
+    if (name->depth < 1 || name->depth > DEPTH_LIMIT)
+        return false;
+    size_t last = name->depth - 1;
+    for (size_t i = 0; i <= last; i++) {
+        bool between = 0 < i && i < last;
+        if (!is_ordinary(name->tuples[i]) && !(between && is_marker(name->tuples[i])))
+            return false;
+    }
+    return name->tuples[last].offset >= 0;
+}
+
+static Tuple read_tuple(const uint8_t *bytes)
+{
+    Tuple t;
+    t.position = (uint16_t)read_number(bytes, 2);
+    t.node = (uint16_t)read_number(bytes + 2, 2);
+    t.sequence = read_number(bytes + 4, 4);
+    t.offset = signed_number(read_number(bytes + 8, 4));
+    return t;
+}
+
+static void write_tuple(uint8_t *bytes, Tuple t)
+{
+    write_number(bytes, 2, t.position);
+    write_number(bytes + 2, 2, t.node);
+    write_number(bytes + 4, 4, t.sequence);
+    write_number(bytes + 8, 4, (uint32_t)t.offset);
+}
+
+/* "depth 1..8, three zero bytes, line number (u32, any value, repeats allowed), then eight tuples of 12 bytes, the first
+ * depth of them a name, the rest all zero" */
+bool read_slot(const uint8_t *bytes, Slot *slot)
+{
+    size_t depth = bytes[0];
+    if (depth < 1 || depth > DEPTH_LIMIT || !all_zero(bytes + 1, 3))
+        return false;
+    slot->line = read_number(bytes + 4, 4);
+    slot->name.depth = depth;
+    for (size_t i = 0; i < depth; i++)
+        slot->name.tuples[i] = read_tuple(bytes + HEAD_BYTES + i * TUPLE_BYTES);
+    size_t used = HEAD_BYTES + depth * TUPLE_BYTES;
+    return is_name(&slot->name) && all_zero(bytes + used, SLOT_BYTES - used);
+}
+
+void write_slot(uint8_t *bytes, const Slot *slot)
+{
+    memset(bytes, 0, SLOT_BYTES);
+    bytes[0] = (uint8_t)slot->name.depth;
+    write_number(bytes + 4, 4, slot->line);
+    for (size_t i = 0; i < slot->name.depth; i++)
+        write_tuple(bytes + HEAD_BYTES + i * TUPLE_BYTES, slot->name.tuples[i]);
+}
+
+/* "A length that is no whole number of slots or entries breaks the layout." */
+static bool keeps_layout(const uint8_t *bytes, size_t length)
+{
+    if (length % SLOT_BYTES != 0 || length > PAGE_BYTES)
+        return false;
+    for (size_t at = 0; at < length; at += SLOT_BYTES) {
+        Slot slot;
+        if (!read_slot(bytes + at, &slot))
+            return false;
+    }
+    return true;
+}
+
+/* "strictly rising names", asked only of slots that keep their layout */
+static bool names_rise(const uint8_t *bytes, size_t length)
+{
+    for (size_t at = SLOT_BYTES; at < length; at += SLOT_BYTES) {
+        Slot before, slot;
+        read_slot(bytes + at - SLOT_BYTES, &before);
+        read_slot(bytes + at, &slot);
+        if (compare_names(&before.name, &slot.name) >= 0)
+            return false;
+    }
+    return true;
+}
+
+int check_page(const uint8_t *bytes, size_t length)
+{
+    if (!keeps_layout(bytes, length))
+        return PAGE_LAYOUT;
+    if (!names_rise(bytes, length))
+        return PAGE_NOT_RISING;
+    return ACCEPTED;
+}
+
+/* "A log is a page of 1..256 slots whose line numbers are 0." */
+int check_log(const uint8_t *bytes, size_t length)
+{
+    if (length == 0 || check_page(bytes, length) != ACCEPTED)
+        return LOG_BROKEN;
+    for (size_t at = 0; at < length; at += SLOT_BYTES) {
+        Slot slot;
+        read_slot(bytes + at, &slot);
+        if (slot.line != 0)
+            return LOG_BROKEN;
+    }
+    return ACCEPTED;
+}

@@ -1,0 +1,12 @@
+/* The listing of a page, in plain C: see book.h. */
+#ifndef TESTS_REFERENCE_LISTING_H
+#define TESTS_REFERENCE_LISTING_H
+
+#include <stddef.h>
+#include <stdint.h>
+#include <stdio.h>
+
+/* Writes what document 01 says for these bytes: the whole listing, or the line of a refusal. */
+void list_page(const uint8_t *bytes, size_t length, FILE *out);
+
+#endif
