@@ -6,3 +6,4 @@ pub mod Inside
 pub mod Put
 pub mod Written
 pub mod Sign
+pub mod RoundTrip
