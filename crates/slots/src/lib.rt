@@ -9,7 +9,7 @@ ghost use lib.IntN.{pos, negsuc};
 ghost use Rattle.names.specs.Ordering.{compareRows};
 ghost use Rattle.names.specs.Names.{limit, rowOf, ordinary, ordinaryFrom, marker, isName, withinℤ};
 ghost use Rattle.slots.specs.Bytes.{at16, at32, at64, signed, unsigned, tupleAt, tuplesAt, tupleSize, allZero, bytes32, tupleBytes, rowBytes, put};
-ghost use Rattle.slots.specs.Slots.{headSize, slotSize, depthOf, nameOf, keepsSlot, slotBytes};
+ghost use Rattle.slots.specs.Slots.{headSize, slotSize, depthOf, lineOf, nameOf, keepsSlot, slotBytes};
 use names::LIMIT;
 use names::Name;
 use names::Order;
@@ -133,6 +133,14 @@ pub fn depth(s: &[u8]) -> usize
 {
     let d = s[0] as usize;
     if d < LIMIT { d } else { LIMIT }
+}
+
+// The line number in a slot.
+pub fn read_line(s: &[u8]) -> u32
+    requires { ⌜ length (now s) ≡ slotSize ⌝ }
+    ensures { λ r. ⌜ r ≡ lineOf (now (s .entry)) ⌝ }
+{
+    read_u32(s, 4)
 }
 
 // The name in a slot.

@@ -1,0 +1,22 @@
+use mathlib.Core.Path.{_≡_, _∙_, sym, ap}
+use Rattle.pages.specs.Pages.{checkSlot}
+use borrow.Author.Needs.{needs}
+use Rattle.pages.proofs.check_slot.Statement.{statement}
+use Rattle.pages.proofs.check_slot.Tie as tie
+use Rattle.pages.proofs.check_slot.Reads as reads
+use Rattle.pages.proofs.check_slot.Lts as lts
+use Rattle.pages.proofs.slot_ok.Reads as slot-ok-reads
+
+slot-ok-requires : tie.Need-slot-ok-requires
+slot-ok-requires c κs = search needs
+
+returns : tie.Need-returns
+unfolding checkSlot
+returns c = simp (sym (c .before .slot-ok .ensures) ∙ c .if1 .taken)
+
+returns-2 : tie.Need-returns-2
+unfolding checkSlot
+returns-2 c = simp (sym (c .before .slot-ok .ensures) ∙ c .if1 .left)
+
+pub check-slot-spec : {M : Type 1} → statement M
+check-slot-spec = tie.close (tie.spec slot-ok-requires returns returns-2)

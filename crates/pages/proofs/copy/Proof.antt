@@ -1,0 +1,68 @@
+use Rattle.slots.proofs.Put.{put-none}
+use mathlib.Core.Path.{_≡_, refl, _∙_, sym, ap}
+use Prim.Native.Nat.{ℕ, _+_, _-_, _<_, _≤_}
+use native.Mathlib.Omega.{arith}
+use denote.Ref.{now}
+use lib.ListN.{length, take, getD, length-set}
+use lib.Seq.{take-all}
+use Rattle.slots.specs.Bytes.{put}
+use Rattle.pages.proofs.Copied.{copied-more}
+use Rattle.pages.proofs.copy.Statement.{statement}
+use Rattle.pages.proofs.copy.Tie as tie
+use Rattle.pages.proofs.copy.Reads as reads
+use Rattle.pages.proofs.copy.Lts as lts
+
+abbrev Inv-loop : tie.InvT-loop
+Inv-loop out₀ p src i₀ out i = (i ≤ length src) × (length out ≡ length out₀) × (out ≡ put out₀ p (take i src))
+
+abbrev μ-loop : tie.MeasureT-loop
+μ-loop out₀ p src i₀ out i = length src - i
+
+loop-holds : tie.Need-loop-holds Inv-loop μ-loop
+loop-holds c = (omega arith, refl, put-none (now (c .args .out)) (c .args .p))
+
+shared-slice-read-out : tie.Need-shared-slice-read-out Inv-loop μ-loop
+shared-slice-read-out c = omega arith
+
+add-out : tie.Need-add-out Inv-loop μ-loop
+add-out c = omega arith
+
+slice-write-out : tie.Need-slice-write-out Inv-loop μ-loop
+slice-write-out c = omega arith
+
+add-i : tie.Need-add-i Inv-loop μ-loop
+add-i c = omega arith
+
+loop-less : tie.Need-loop-less Inv-loop μ-loop
+loop-less c = omega arith
+
+loop-again : tie.Need-loop-again Inv-loop μ-loop
+loop-again c =
+    let v = c .before .before .loop .inv in
+    let o = now (c .before .before .before .args .out) in
+    let s = now (c .before .before .before .args .src) in
+    (omega arith, simp length-set (v .1), copied-more o s (c .before .before .loop .out) (c .before .before .before .args .p) (c .before .before .loop .i) (c .before .before .before .pre) (c .before .loop-test .taken) (v .2) (omega arith))
+
+same-length : tie.Need-same-length Inv-loop μ-loop
+same-length c = c .before .loop .inv .1
+
+returns : tie.Need-returns Inv-loop μ-loop
+returns c =
+    let s = now (c .before .before .args .src) in
+    c .before .loop .inv .2 ∙ ap (put (now (c .before .before .args .out)) (c .before .before .args .p)) (take-all (c .before .loop .i) s (omega arith))
+
+pub copy-spec : {M : Type 1} → statement M
+copy-spec =
+    tie.close
+    (tie.spec
+    Inv-loop
+    μ-loop
+    loop-holds
+    shared-slice-read-out
+    add-out
+    slice-write-out
+    add-i
+    loop-less
+    loop-again
+    same-length
+    returns)

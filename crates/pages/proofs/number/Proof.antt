@@ -1,0 +1,27 @@
+use Rattle.pages.specs.Answers.{numberOf}
+use mathlib.Core.Path.{_∙_, sym, ap}
+use Rattle.pages.specs.Answers.{refusalNumber}
+use borrow.Author.Needs.{needs}
+use Rattle.pages.proofs.number.Statement.{statement}
+use Rattle.pages.proofs.number.Tie as tie
+use Rattle.pages.proofs.number.Reads as reads
+use Rattle.pages.proofs.number.Lts as lts
+use Rattle.pages.proofs.refusal_number.Reads as refusal-number-reads
+
+enum-told : tie.Need-enum-told
+enum-told c = search needs
+
+enum-known-a : tie.Need-enum-known-a
+enum-known-a c = search needs
+
+refusal-number-requires : tie.Need-refusal-number-requires
+refusal-number-requires c κs = search needs
+
+returns : tie.Need-returns
+returns c = search needs
+
+returns-2 : tie.Need-returns-2
+returns-2 c = c .refusal-number .ensures ∙ sym (ap numberOf (c .before .before .a .given .1))
+
+pub number-spec : {M : Type 1} → statement M
+number-spec = tie.close (tie.spec enum-told enum-known-a refusal-number-requires returns returns-2)

@@ -1,0 +1,24 @@
+use mathlib.Core.Path.{_≡_, _∙_, sym}
+use borrow.Author.Tests.{eq-eqb, ne-eqb}
+use denote.Ref.{now}
+use Rattle.slots.specs.Slots.{keepsSlot}
+use Rattle.pages.proofs.Parts.{one-part}
+use borrow.Author.Needs.{needs}
+use Rattle.pages.proofs.slot_ok.Statement.{statement}
+use Rattle.pages.proofs.slot_ok.Tie as tie
+use Rattle.pages.proofs.slot_ok.Reads as reads
+use Rattle.pages.proofs.slot_ok.Lts as lts
+use Rattle.pages.proofs.slots_ok.Reads as slots-ok-reads
+
+returns : tie.Need-returns
+unfolding keepsSlot
+returns c = simp (ne-eqb _ _ (c .if1 .taken))
+
+slots-ok-requires : tie.Need-slots-ok-requires
+slots-ok-requires c κs = search needs
+
+returns-2 : tie.Need-returns-2
+returns-2 c = c .slots-ok .ensures ∙ one-part (now (c .before .before .before .args .slot)) (c .before .if1 .left)
+
+pub slot-ok-spec : {M : Type 1} → statement M
+slot-ok-spec = tie.close (tie.spec returns slots-ok-requires returns-2)

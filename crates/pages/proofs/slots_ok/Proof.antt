@@ -1,0 +1,75 @@
+use mathlib.Core.Path.{_≡_, refl, _∙_, sym, ap}
+use Prim.Native.Nat.{ℕ, _+_, _*_, _-_, _/_, _<_, _≤_}
+use native.Mathlib.Omega.{arith}
+use denote.Ref.{now}
+use lib.ListN.{length, drop}
+use Rattle.slots.specs.Bytes.{every}
+use Rattle.slots.specs.Slots.{slotSize, keepsSlot}
+use Rattle.pages.specs.Pages.{parts}
+use Rattle.pages.proofs.Parts.{lent-length, part-at, part-end}
+use Rattle.pages.proofs.slots_ok.Statement.{statement}
+use Rattle.pages.proofs.slots_ok.Tie as tie
+use Rattle.pages.proofs.slots_ok.Reads as reads
+use Rattle.pages.proofs.slots_ok.Lts as lts
+use Rattle.slots.proofs.slot_ok.Reads as slot-ok-reads
+
+abbrev Inv-loop : tie.InvT-loop
+Inv-loop page n k₀ k = (n ≡ length page / slotSize) × (k ≤ n) × (every keepsSlot (drop k (parts n page)) ≡ every keepsSlot (parts n page))
+
+abbrev μ-loop : tie.MeasureT-loop
+μ-loop page n k₀ k = n - k
+
+loop-holds : tie.Need-loop-holds Inv-loop μ-loop
+loop-holds c = (refl, omega arith, refl)
+
+mul-at : tie.Need-mul-at Inv-loop μ-loop
+mul-at c = omega arith
+
+add-end : tie.Need-add-end Inv-loop μ-loop
+add-end c = omega arith
+
+sub-slot-ok : tie.Need-sub-slot-ok Inv-loop μ-loop
+sub-slot-ok c = omega arith
+
+part-slot-ok-start : tie.Need-part-slot-ok-start Inv-loop μ-loop
+part-slot-ok-start c = omega arith
+
+part-slot-ok-end : tie.Need-part-slot-ok-end Inv-loop μ-loop
+part-slot-ok-end c = omega arith
+
+slot-ok-requires : tie.Need-slot-ok-requires Inv-loop μ-loop
+slot-ok-requires c κs = lent-length (now (c .before .before .before .before .args .page)) _ (c .before .before .loop .k) _ refl (c .before .loop-test .taken) (c .before .before .loop .inv .0)
+
+add-k : tie.Need-add-k Inv-loop μ-loop
+add-k c = omega arith
+
+loop-less : tie.Need-loop-less Inv-loop μ-loop
+loop-less c = omega arith
+
+loop-again : tie.Need-loop-again Inv-loop μ-loop
+loop-again c = (c .before .before .before .before .loop .inv .0, omega arith, part-at keepsSlot (now (c .before .before .before .before .before .before .args .page)) _ (c .before .before .before .before .loop .k) (c .before .before .before .loop-test .taken) (sym (c .if1 .taken) ∙ c .before .slot-ok .ensures) ∙ c .before .before .before .before .loop .inv .2)
+
+returns : tie.Need-returns Inv-loop μ-loop
+returns c = part-at keepsSlot (now (c .before .before .before .before .before .before .args .page)) _ (c .before .before .before .before .loop .k) (c .before .before .before .loop-test .taken) (sym (c .if1 .left) ∙ c .before .slot-ok .ensures) ∙ c .before .before .before .before .loop .inv .2
+
+returns-2 : tie.Need-returns-2 Inv-loop μ-loop
+returns-2 c = part-end keepsSlot (now (c .before .before .before .args .page)) _ (c .before .loop .k) (c .loop-test .left) ∙ c .before .loop .inv .2
+
+pub slots-ok-spec : {M : Type 1} → statement M
+slots-ok-spec =
+    tie.close
+    (tie.spec
+    Inv-loop
+    μ-loop
+    loop-holds
+    mul-at
+    add-end
+    sub-slot-ok
+    part-slot-ok-start
+    part-slot-ok-end
+    slot-ok-requires
+    add-k
+    loop-less
+    loop-again
+    returns
+    returns-2)

@@ -1,0 +1,67 @@
+-- What comes back from a call, and what it leaves in its output: document 01, "What comes back" and "Taking it back".
+use Prim.Native.Nat.{ℕ}
+use mathlib.Core.List.{List, [], flatten}
+use mathlib.Core.Bool.{Bool, true, false}
+use lib.ListN.{length}
+use lib.Dec.{leb}
+use Rattle.slots.specs.Bytes.{Bytes, put}
+use Rattle.pages.specs.declared.Refusal.{Refusal}
+use Rattle.pages.specs.declared.Refusal.the-variants.{BadLayout, NotRising, BadLog, NoAuthor, NotFresh, TooDeep, NotRisingBack, Short, Present, Absent, Full, NoNewName, BadTable, NoEpoch, Malformed, NoGap, Listed, TableFull}
+use Rattle.pages.specs.declared.Answer.{Answer}
+use Rattle.pages.specs.declared.Answer.the-variants.{Accepted, Refused}
+
+-- "No." of 01's table
+abbrev pub refusalNumber : Refusal → ℕ
+refusalNumber BadLayout = 1
+refusalNumber NotRising = 2
+refusalNumber BadLog = 3
+refusalNumber NoAuthor = 4
+refusalNumber NotFresh = 5
+refusalNumber TooDeep = 6
+refusalNumber NotRisingBack = 7
+refusalNumber Short = 8
+refusalNumber Present = 9
+refusalNumber Absent = 10
+refusalNumber Full = 11
+refusalNumber NoNewName = 12
+refusalNumber BadTable = 13
+refusalNumber NoEpoch = 14
+refusalNumber Malformed = 15
+refusalNumber NoGap = 16
+refusalNumber Listed = 17
+refusalNumber TableFull = 18
+
+abbrev pub numberOf : Answer → ℕ
+numberOf (Accepted n) = 0
+numberOf (Refused r) = refusalNumber r
+
+-- "accepted; with the count of slots, entries or bytes written"; "Each refusal reports count 0"
+abbrev pub countOf : Answer → ℕ
+countOf (Accepted n) = n
+countOf (Refused r) = 0
+
+-- "Order": a row of tests, the first that fails gives the answer
+abbrev pub ask : {A : Type 0} → Bool → A → A → A
+ask true refusal next = next
+ask false refusal next = refusal
+
+-- what a call that writes answers, and the bytes that it writes
+pub record Outcome : Type 0 where
+  pub answer : Answer
+  pub bytes : Bytes
+
+-- "Each refusal .. writes nothing"
+abbrev pub refuse : Refusal → Outcome
+refuse r = record { answer = Refused r; bytes = [] }
+
+-- The pieces are slots, entries or single bytes: the count is how many of them are written.
+abbrev pub accept : List Bytes → Outcome
+accept pieces = record { answer = Accepted (length pieces); bytes = flatten pieces }
+
+-- "8: output shorter than the result", which is the last refusal of every call that writes
+abbrev pub write : List Bytes → ℕ → Outcome
+write pieces room = ask (leb (length (flatten pieces)) room) (refuse Short) (accept pieces)
+
+-- "Every accepted call writes what its count says, from the start of its output, and nothing after that." The output held o.
+abbrev pub leaves : Outcome → Bytes → Bytes
+leaves x o = put o 0 (x .bytes)
