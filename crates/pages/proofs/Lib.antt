@@ -1,3 +1,4 @@
 pub mod Parts
 pub mod Halving
 pub mod Copied
+pub mod RoundTrip

@@ -1,0 +1,117 @@
+-- A page's bytes and the list of its slots: `page-back`, the bytes of the slots of a page are the page; `slots-back`, the slots
+-- of the bytes of at most 256 slots are these slots, and the bytes keep the layout (`encoded-layout`). Assumes nothing.
+use mathlib.Core.Path.{_≡_, refl, _∙_, sym, ap}
+use mathlib.Core.List.{List, [], _∷_, _++_, map, flatten}
+use mathlib.Core.Bool.{Bool, true, false, _&&_}
+use Prim.Native.Nat.{ℕ, zero, suc, _+_, _*_, _/_, _%_, _<_, _≤_}
+use native.Mathlib.Decide.{decLt}
+use native.Mathlib.Omega.{arith}
+use borrow.Author.Tests.{eq-eqb, le-leb, eqb-true, leb-true}
+use lib.Dec.{eqb, leb}
+use lib.ListN.{length, getD, take, drop, length-append, length-drop, length-take, take-append-drop, List·getD-eq-default}
+use lib.Seq.{getD-take, getD-drop, take-at, drop-at}
+use Rattle.names.proofs.Laws.{and-0, and-1}
+use Rattle.slots.specs.Bytes.{Bytes, every}
+use Rattle.slots.specs.Slots.{Slot, slotSize, slotOf, keepsSlot, slotBytes, isSlot}
+use Rattle.slots.proofs.Numbers.{Octets}
+use Rattle.slots.proofs.RoundTrip.{kept, bytes-back, slot-back, encoded-length, encoded-keeps}
+use Rattle.pages.specs.Pages.{maxSlots, parts, partsOf, slotsOf, pieces, keepsLayout}
+
+-- ── parts of bytes ──
+
+pub octets-take : (n : ℕ) (s : Bytes) → Octets s → Octets (take n s)
+octets-take n s k i = elim (decLt i n) [
+  | yes h ↦ rw (getD-take n s i 0 h) (k i)
+  | no h ↦ let l : length (take n s) ≤ i = omega (arith, length-take n s) in rw (List·getD-eq-default (take n s) 0 l) (omega arith)
+]
+
+pub octets-drop : (n : ℕ) (s : Bytes) → Octets s → Octets (drop n s)
+octets-drop n s k i = rw (getD-drop n s i 0) (k (n + i))
+
+-- ── from bytes and back ──
+
+flat : (x : Bytes) (l : List Bytes) → flatten (x ∷ l) ≡ x ++ flatten l
+unfolding flatten
+flat x l = refl
+
+flat-none : flatten {A = ℕ} [] ≡ []
+unfolding flatten
+flat-none = refl
+
+empty : (s : Bytes) → length s ≡ 0 → [] ≡ s
+empty [] e = refl
+empty (x ∷ s) e = absurd (let z : suc (length s) ≡ 0 = e in omega arith)
+
+parts-back : (n : ℕ) (s : Bytes) → Octets s → length s ≡ slotSize * n → every keepsSlot (parts n s) ≡ true → flatten (map slotBytes (map slotOf (parts n s))) ≡ s
+parts-back zero s k e v = flat-none ∙ empty s (e ∙ omega arith)
+parts-back (suc n) s k e v =
+    let a = take slotSize s in
+    let b = drop slotSize s in
+    let l : length b ≡ slotSize * n = simp length-drop (omega arith) in
+    let v₀ = and-0 (keepsSlot a) (every keepsSlot (parts n b)) v in
+    let v₁ = and-1 (keepsSlot a) (every keepsSlot (parts n b)) v in
+    flat (slotBytes (slotOf a)) (map slotBytes (map slotOf (parts n b)))
+    ∙ (λ i. bytes-back a (octets-take slotSize s k) (kept a v₀) i ++ parts-back n b (octets-drop slotSize s k) l v₁ i)
+    ∙ take-append-drop slotSize s
+
+-- what the check of a page's layout has found
+pub record Laid (s : Bytes) : Type 0 where
+  pub whole : length s ≡ slotSize * (length s / slotSize)
+  pub few : length s / slotSize ≤ maxSlots
+  pub good : every keepsSlot (partsOf s) ≡ true
+
+pub laid : (s : Bytes) → keepsLayout s ≡ true → Laid s
+unfolding keepsLayout
+laid s e =
+    let a = eqb (length s % slotSize) 0 in
+    let b = leb (length s / slotSize) maxSlots in
+    let e₀ = and-0 (a && b) (every keepsSlot (partsOf s)) e in
+    let z = eqb-true (length s % slotSize) 0 (and-0 a b e₀) in
+    record { whole = omega arith; few = leb-true (length s / slotSize) maxSlots (and-1 a b e₀); good = and-1 (a && b) (every keepsSlot (partsOf s)) e }
+
+pub page-back : (s : Bytes) → Octets s → keepsLayout s ≡ true → flatten (pieces (slotsOf s)) ≡ s
+page-back s k e = let v = laid s e in parts-back (length s / slotSize) s k (v .whole) (v .good)
+
+-- ── from slots and back ──
+
+pub written-length : (l : List Slot) → every isSlot l ≡ true → length (flatten (pieces l)) ≡ slotSize * length l
+written-length [] e = ap length flat-none
+written-length (x ∷ l) e =
+    let a = encoded-length x (and-0 (isSlot x) (every isSlot l) e) in
+    let b = written-length l (and-1 (isSlot x) (every isSlot l) e) in
+    ap length (flat (slotBytes x) (pieces l)) ∙ length-append (slotBytes x) (flatten (pieces l)) ∙ omega arith
+
+parts-of : (l : List Slot) → every isSlot l ≡ true → parts (length l) (flatten (pieces l)) ≡ pieces l
+parts-of [] e = refl
+parts-of (x ∷ l) e =
+    let a = encoded-length x (and-0 (isSlot x) (every isSlot l) e) in
+    let f = flat (slotBytes x) (pieces l) in
+    let t = ap (take slotSize) f ∙ take-at (slotBytes x) (flatten (pieces l)) slotSize a in
+    let d = ap (drop slotSize) f ∙ drop-at (slotBytes x) (flatten (pieces l)) slotSize a in
+    λ i. t i ∷ (ap (parts (length l)) d ∙ parts-of l (and-1 (isSlot x) (every isSlot l) e)) i
+
+decoded : (l : List Slot) → every isSlot l ≡ true → map slotOf (pieces l) ≡ l
+decoded [] e = refl
+decoded (x ∷ l) e = λ i. slot-back x (and-0 (isSlot x) (every isSlot l) e) i ∷ decoded l (and-1 (isSlot x) (every isSlot l) e) i
+
+keeps : (l : List Slot) → every isSlot l ≡ true → every keepsSlot (pieces l) ≡ true
+keeps [] e = refl
+keeps (x ∷ l) e = λ i. encoded-keeps x (and-0 (isSlot x) (every isSlot l) e) i && keeps l (and-1 (isSlot x) (every isSlot l) e) i
+
+module _ (l : List Slot) (e : every isSlot l ≡ true) where
+  many : length (flatten (pieces l)) / slotSize ≡ length l
+  many = let q = written-length l e in omega arith
+
+  parts-are : partsOf (flatten (pieces l)) ≡ pieces l
+  parts-are = ap (λ (n : ℕ). parts n (flatten (pieces l))) many ∙ parts-of l e
+
+  pub slots-back : slotsOf (flatten (pieces l)) ≡ l
+  slots-back = ap (map slotOf) parts-are ∙ decoded l e
+
+  pub encoded-layout : length l ≤ maxSlots → keepsLayout (flatten (pieces l)) ≡ true
+  unfolding keepsLayout
+  encoded-layout h =
+      let q = written-length l e in
+      let z : length (flatten (pieces l)) % slotSize ≡ 0 = omega arith in
+      let f : length (flatten (pieces l)) / slotSize ≤ maxSlots = omega (arith, many) in
+      λ i. eq-eqb (length (flatten (pieces l)) % slotSize) 0 z i && le-leb (length (flatten (pieces l)) / slotSize) maxSlots f i && (ap (every keepsSlot) parts-are ∙ keeps l e) i
