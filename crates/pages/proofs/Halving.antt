@@ -1,17 +1,15 @@
 -- The place of a name in a rising row of names. Assumes nothing.
-use mathlib.Core.Path.{_≡_, refl, _∙_, sym, ap}
+use mathlib.Core.Path.{_≡_, refl, _∙_, ap}
 use mathlib.Core.List.{List, [], _∷_}
-use mathlib.Core.Bool.{Bool, true, false, cond, _||_}
+use mathlib.Core.Bool.{Bool, true, false, _||_}
 use Prim.Native.Nat.{ℕ, zero, suc, _+_, _<_, _≤_}
 use native.Mathlib.Decide.{decLt}
 use native.Mathlib.Nat.{not-suc-le-zero, le-of-suc-le-suc}
 use native.Mathlib.Omega.{arith}
 use lib.ListN.{length, getD}
 use Rattle.names.specs.declared.Order.{Order}
-use Rattle.names.specs.declared.Order.the-variants.{Less, Same, More}
 use Rattle.names.specs.Ordering.{Row, compareRows, isLess, isSame, _<ⁿ_, Rising, none, one, more}
 use Rattle.names.proofs.Laws.{<ⁿ-trans, <ⁿ-irrefl, Tri, below as isBelow, level, above, triN, row-less, row-same}
-use Rattle.pages.specs.declared.Place.{Place}
 use Rattle.pages.specs.declared.Place.the-variants.{Here, Gap}
 use Rattle.pages.specs.Places.{below, has, placeOf}
 

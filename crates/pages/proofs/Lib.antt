@@ -2,3 +2,4 @@ pub mod Parts
 pub mod Halving
 pub mod Copied
 pub mod RoundTrip
+pub mod Settled

@@ -1,7 +1,7 @@
 -- A page as the row of its slots, and a loop that goes along it. Assumes nothing.
 use mathlib.Core.Path.{_≡_, refl, _∙_, sym, ap}
 use mathlib.Core.List.{List, [], _∷_, map}
-use mathlib.Core.Bool.{Bool, true, false, _&&_, and-true}
+use mathlib.Core.Bool.{Bool, true, _&&_, and-true}
 use Prim.Native.Nat.{ℕ, zero, suc, _+_, _*_, _-_, _/_, _<_, _≤_}
 use native.Mathlib.Nat.{le-of-suc-le-suc, not-suc-le-zero}
 use native.Mathlib.Numerals.{add-one}
@@ -11,7 +11,7 @@ use lib.Seq.{drop-cons, drop-drop, take-all}
 use Rattle.names.specs.declared.Order.{Order}
 use Rattle.names.specs.Ordering.{Row, compareRows, isLess, rising}
 use Rattle.slots.specs.Bytes.{Bytes, every}
-use Rattle.slots.specs.Slots.{Slot, slotSize, slotOf, nameOf, keepsSlot}
+use Rattle.slots.specs.Slots.{slotSize, slotOf, nameOf, keepsSlot}
 use Rattle.slots.proofs.Zeros.{every-at, every-end}
 use Rattle.pages.specs.Pages.{parts, partsOf, slotsOf, nameIn, namesOf}
 

@@ -7,3 +7,4 @@ pub mod Put
 pub mod Written
 pub mod Sign
 pub mod RoundTrip
+pub mod Settled

@@ -1,13 +1,11 @@
 -- Numbers out of bytes: bounds, and the number of four bytes read from the lowest and turned round. Assumes nothing.
-use mathlib.Core.Path.{_≡_, refl, _∙_, sym, ap}
-use mathlib.Core.Bool.{Bool, true, false, cond, _&&_}
-use mathlib.Core.List.{List}
+use mathlib.Core.Path.{_≡_, _∙_}
 use Prim.Native.Nat.{ℕ, _+_, _*_, _-_, _/_, _%_, _<_, _≤_}
 use native.Mathlib.Omega.{arith}
 use borrow.Author.Tests.{lt-ltb, le-ltb}
 use lib.ListN.{getD}
 use lib.IntN.{pos, negsuc}
-use Rattle.slots.specs.Bytes.{Bytes, at16, at32, at64, signed}
+use Rattle.slots.specs.Bytes.{Bytes, at16, at32, signed}
 
 -- every element is a byte
 abbrev pub Octets : Bytes → Type 0

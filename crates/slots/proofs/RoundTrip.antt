@@ -4,23 +4,22 @@
 use mathlib.Core.Path.{_≡_, refl, _∙_, sym, ap}
 use mathlib.Core.List.{List, [], _∷_, _++_, append-assoc}
 use mathlib.Core.Bool.{Bool, true, false, _&&_, _||_}
-use Prim.Native.Nat.{ℕ, zero, suc, _+_, _-_, _*_, _/_, _%_, _<_, _≤_, _^_, min}
+use Prim.Native.Nat.{ℕ, zero, suc, _+_, _-_, _*_, _/_, _%_, _<_, _≤_}
 use native.Mathlib.Decide.{decLt}
 use native.Mathlib.Nat.{add-assoc}
 use native.Mathlib.Omega.{arith}
-use borrow.Author.Tests.{le-leb, eq-eqb, leb-true, eqb-true, lt-ltb, le-ltb}
+use borrow.Author.Tests.{le-leb, eq-eqb, leb-true, eqb-true}
 use lib.ListN.{length, take, drop, getD, replicate, length-append, length-replicate, length-take, length-drop, take-append-drop}
-use lib.Seq.{drop-cons, drop-drop, take-add, take-all, getD-append-add, drop-at}
+use lib.Seq.{drop-cons, drop-drop, take-add, getD-append-add, drop-at}
 use lib.Dec.{leb, eqb}
 use lib.IntN.{ℤ, pos, negsuc}
-use lib.Signed.{leZ}
 use Rattle.names.specs.declared.Tuple.{Tuple}
 use Rattle.names.specs.declared.Order.{Order}
 use Rattle.names.specs.declared.Order.the-variants.{Less, Same, More}
 use Rattle.names.specs.Ordering.{Row, compareTuples, isSame}
 use Rattle.names.specs.Names.{limit, fits, within, withinℤ, m, M, ordinaryFrom, ordinary, marker, endsWell, isName}
 use Rattle.names.proofs.Laws.{same-tuple, and-0, and-1}
-use Rattle.slots.specs.Bytes.{Bytes, at16, at32, signed, unsigned, tupleAt, tuplesAt, tupleSize, every, isZero, allZero, bytes16, bytes32, tupleBytes, rowBytes}
+use Rattle.slots.specs.Bytes.{Bytes, at16, at32, signed, unsigned, tupleAt, tuplesAt, tupleSize, allZero, bytes16, bytes32, tupleBytes, rowBytes}
 use Rattle.slots.specs.Slots.{Slot, headSize, slotSize, depthOf, nameOf, lineOf, slotOf, keepsSlot, slotBytes, isSlot}
 use Rattle.slots.proofs.Numbers.{Octets, fits16, fits32, signed-pos, signed-neg}
 use Rattle.slots.proofs.Rows.{length-tuplesAt, take-tuplesAt}
@@ -70,7 +69,7 @@ module _ (s : Bytes) (k : Octets s) where
   unfolding tupleBytes tupleAt
   here-tuple p h =
       (λ i. here16 p (omega arith) i ++ here16 (p + 2) (omega arith) i ++ here32 (p + 4) (omega arith) i
-        ++ (ap bytes32 (unsigned-signed (at32 s (p + 8)) (fits32 s (p + 8) k)) ∙ here32 (p + 8) (omega arith)) i)
+      ++ (ap bytes32 (unsigned-signed (at32 s (p + 8)) (fits32 s (p + 8) k)) ∙ here32 (p + 8) (omega arith)) i)
       ∙ (λ i. next-to s p 2 2 i ++ take 4 (drop (p + 4) s) ++ take 4 (drop (p + 8) s))
       ∙ (λ i. next-to s p 4 4 i ++ take 4 (drop (p + 8) s))
       ∙ next-to s p 8 4
@@ -148,7 +147,7 @@ module _ (s : Bytes) (k : Octets s) (v : Kept s) where
       let f = v .fit in
       let l = v .long in
       (λ i. (deep-is i ∷ 0 ∷ 0 ∷ 0 ∷ []) ++ here32 s k 4 (omega arith) i ++ (ap rowBytes row ∙ here-row s k headSize (depthOf s) (omega arith)) i
-        ++ (ap (λ (n : ℕ). replicate (tupleSize * (limit - n)) 0) deep-is ∙ tail) i)
+      ++ (ap (λ (n : ℕ). replicate (tupleSize * (limit - n)) 0) deep-is ∙ tail) i)
       ∙ (λ i. first i ++ three i ++ take 4 (drop 4 s) ++ take (tupleSize * depthOf s) (drop headSize s) ++ drop (headSize + tupleSize * depthOf s) s)
       ∙ (λ i. next-to s 0 1 3 i ++ take 4 (drop 4 s) ++ take (tupleSize * depthOf s) (drop headSize s) ++ drop (headSize + tupleSize * depthOf s) s)
       ∙ (λ i. next-to s 0 4 4 i ++ take (tupleSize * depthOf s) (drop headSize s) ++ drop (headSize + tupleSize * depthOf s) s)
@@ -336,8 +335,8 @@ module _ (x : Slot) (h : isSlot x ≡ true) where
       let n = name-long (x .name) named in
       let r = ap allZero (drop-at (((length (x .name) ∷ 0 ∷ 0 ∷ 0 ∷ []) ++ bytes32 (x .line)) ++ rowBytes (x .name)) (replicate (tupleSize * (limit - length (x .name))) 0) (headSize + tupleSize * length (x .name)) front-length) ∙ zeros-zero (tupleSize * (limit - length (x .name))) in
       λ i.
-        eq-eqb (length (slotBytes x)) slotSize encoded-length i
-        && (le-leb 1 (length (x .name)) n i && le-leb (length (x .name)) limit f i)
-        && true
-        && (ap isName name-back ∙ named) i
-        && r i
+      eq-eqb (length (slotBytes x)) slotSize encoded-length i
+      && (le-leb 1 (length (x .name)) n i && le-leb (length (x .name)) limit f i)
+      && true
+      && (ap isName name-back ∙ named) i
+      && r i

@@ -1,14 +1,12 @@
 -- Two's complement: what a test of the sign says. Assumes nothing.
 use mathlib.Core.Path.{_≡_, refl, _∙_, sym, ap}
-use mathlib.Core.Bool.{Bool, true, false}
-use Prim.Native.Nat.{ℕ, zero, suc, _-_, _<_, _≤_, _^_}
+use mathlib.Core.Bool.{true, false}
+use Prim.Native.Nat.{ℕ, suc, _-_, _≤_}
 use native.Mathlib.Omega.{arith}
-use borrow.Author.Tests.{le-ltb, leb-true, lt-leb}
-use lib.Dec.{T, leb, leb·zero}
-use lib.IntN.{ℤ, pos, negsuc, natAbs, _-ℤ_}
-use lib.Signed.{leZ, nonNeg, mag}
-use mir.Syntax.{w32}
-use mir.Val.{SFits, Fits}
+use borrow.Author.Tests.{le-ltb}
+use lib.Dec.{leb·zero}
+use lib.IntN.{ℤ, pos, negsuc, _-ℤ_}
+use lib.Signed.{leZ}
 
 no : true ≡ false → ⊥
 no e = let z : _≡_ {A = ℕ} 0 1 = cc in omega arith

@@ -1,16 +1,16 @@
 -- The sorts of tuples told by their bytes: ordinary ones, last ones, markers. Assumes nothing.
 use mathlib.Core.Path.{_≡_, refl, _∙_, sym, ap}
-use mathlib.Core.Bool.{Bool, true, false, _&&_, _||_, and-true, and-false, and-assoc, or-false}
+use mathlib.Core.Bool.{Bool, true, false, _&&_, _||_, and-true, and-false, and-assoc}
 use Prim.Native.Nat.{ℕ, _+_, _*_, _-_, _%_, _<_, _≤_, _^_}
 use native.Mathlib.Decide.{decLt, decLe}
 use native.Mathlib.Omega.{arith}
-use borrow.Author.Tests.{lt-leb, le-leb, lt-ltb, le-ltb, eq-eqb, ne-eqb, eqb-true}
+use borrow.Author.Tests.{lt-leb, le-leb, lt-ltb, le-ltb, eq-eqb, eqb-true}
 use lib.Dec.{eqb, leb, ltb}
-use lib.IntN.{ℤ, pos, negsuc}
+use lib.IntN.{pos, negsuc}
 use Rattle.names.specs.declared.Tuple.{Tuple}
 use Rattle.names.specs.declared.Order.{Order}
 use Rattle.names.specs.Ordering.{compareTuples, isSame, _<ᵗ_}
-use Rattle.names.specs.Names.{m, M, withinℤ, ordinaryFrom, ordinary, marker}
+use Rattle.names.specs.Names.{withinℤ, ordinaryFrom, ordinary, marker}
 use Rattle.names.proofs.Laws.{Tri, below, level, above, triT, <ᵗ-irrefl, tuple-≡, and-0, and-1}
 use Rattle.slots.specs.Bytes.{Bytes, at16, at32, at64, signed, tupleAt}
 use Rattle.slots.proofs.Numbers.{Octets, fits16, fits32, signed-pos, signed-neg}
@@ -27,12 +27,12 @@ leb-by a b c d f g = elim (decLe a b) [
 pub offset-by : (o : ℕ) → o < 4294967296 → leb ((o + 1) % 2 ^ 32) 2147483647 ≡ withinℤ (negsuc 0) (pos 2147483646) (signed o)
 offset-by o q = elim (decLt o 2147483648) [
   | yes h ↦
-    leb-by ((o + 1) % 2 ^ 32) 2147483647 o 2147483646 (λ k. omega arith) (λ k. omega arith)
-    ∙ sym (ap (withinℤ (negsuc 0) (pos 2147483646)) (signed-pos o h))
+      leb-by ((o + 1) % 2 ^ 32) 2147483647 o 2147483646 (λ k. omega arith) (λ k. omega arith)
+      ∙ sym (ap (withinℤ (negsuc 0) (pos 2147483646)) (signed-pos o h))
   | no h ↦
-    let h' : 2147483648 ≤ o = omega arith in
-    leb-by ((o + 1) % 2 ^ 32) 2147483647 (4294967295 - o) 0 (λ k. omega arith) (λ k. omega arith)
-    ∙ sym (ap (withinℤ (negsuc 0) (pos 2147483646)) (signed-neg o h') ∙ and-true (leb (4294967295 - o) 0))
+      let h' : 2147483648 ≤ o = omega arith in
+      leb-by ((o + 1) % 2 ^ 32) 2147483647 (4294967295 - o) 0 (λ k. omega arith) (λ k. omega arith)
+      ∙ sym (ap (withinℤ (negsuc 0) (pos 2147483646)) (signed-neg o h') ∙ and-true (leb (4294967295 - o) 0))
 ]
 
 module _ (s : Bytes) (p : ℕ) (k : Octets s) where
@@ -59,13 +59,13 @@ module _ (s : Bytes) (p : ℕ) (k : Octets s) where
 from-zero : (o : ℕ) → withinℤ (pos 0) (pos 2147483646) (signed o) ≡ withinℤ (negsuc 0) (pos 2147483646) (signed o) && ltb o 2147483648
 from-zero o = elim (decLt o 2147483648) [
   | yes h ↦
-    ap (withinℤ (pos 0) (pos 2147483646)) (signed-pos o h)
-    ∙ (λ i. le-leb 0 o (omega arith) i && leb o 2147483646)
-    ∙ sym ((λ i. withinℤ (negsuc 0) (pos 2147483646) (signed-pos o h i) && lt-ltb o 2147483648 h i) ∙ and-true (leb o 2147483646))
+      ap (withinℤ (pos 0) (pos 2147483646)) (signed-pos o h)
+      ∙ (λ i. le-leb 0 o (omega arith) i && leb o 2147483646)
+      ∙ sym ((λ i. withinℤ (negsuc 0) (pos 2147483646) (signed-pos o h i) && lt-ltb o 2147483648 h i) ∙ and-true (leb o 2147483646))
   | no h ↦
-    let h' : 2147483648 ≤ o = omega arith in
-    ap (withinℤ (pos 0) (pos 2147483646)) (signed-neg o h')
-    ∙ sym ((λ i. withinℤ (negsuc 0) (pos 2147483646) (signed o) && le-ltb o 2147483648 h' i) ∙ and-false (withinℤ (negsuc 0) (pos 2147483646) (signed o)))
+      let h' : 2147483648 ≤ o = omega arith in
+      ap (withinℤ (pos 0) (pos 2147483646)) (signed-neg o h')
+      ∙ sym ((λ i. withinℤ (negsuc 0) (pos 2147483646) (signed o) && le-ltb o 2147483648 h' i) ∙ and-false (withinℤ (negsuc 0) (pos 2147483646) (signed o)))
 ]
 
 pub last-by : (s : Bytes) (p : ℕ) → ordinaryFrom (pos 0) (tupleAt s p) ≡ ordinary (tupleAt s p) && ltb (at32 s (p + 8)) 2147483648
@@ -111,13 +111,13 @@ module _ (s : Bytes) (p : ℕ) (k : Octets s) (p' n' q' o' : ℕ) (hn : n' < 655
       let b = fits32 s (p + 4) k in
       same-by (tupleAt s p) t (eqb x ((p' * 65536 + n') * 4294967296 + q') && eqb o o')
       (λ e.
-        let f = eqb-true x ((p' * 65536 + n') * 4294967296 + q') (and-0 _ (eqb o o') e) in
-        let g = eqb-true o o' (and-1 (eqb x ((p' * 65536 + n') * 4294967296 + q')) _ e) in
-        tuple-≡ (omega arith) (omega arith) (omega arith) (ap signed g ∙ signed-pos o' ho))
+      let f = eqb-true x ((p' * 65536 + n') * 4294967296 + q') (and-0 _ (eqb o o') e) in
+      let g = eqb-true o o' (and-1 (eqb x ((p' * 65536 + n') * 4294967296 + q')) _ e) in
+      tuple-≡ (omega arith) (omega arith) (omega arith) (ap signed g ∙ signed-pos o' ho))
       (λ e.
-        let d = ap (λ (w : Tuple). (w .position * 65536 + w .node) * 4294967296 + w .sequence) e in
-        let g = signed-is o o' ho (ap (λ (w : Tuple). w .offset) e) in
-        λ i. eq-eqb x ((p' * 65536 + n') * 4294967296 + q') d i && eq-eqb o o' g i)
+      let d = ap (λ (w : Tuple). (w .position * 65536 + w .node) * 4294967296 + w .sequence) e in
+      let g = signed-is o o' ho (ap (λ (w : Tuple). w .offset) e) in
+      λ i. eq-eqb x ((p' * 65536 + n') * 4294967296 + q') d i && eq-eqb o o' g i)
 
 pub marker-by : (s : Bytes) (p : ℕ) → Octets s → marker (tupleAt s p) ≡ (eqb (at64 s p) 0 && eqb (at32 s (p + 8)) 0) || (eqb (at64 s p) 18446744073709551615 && eqb (at32 s (p + 8)) 2147483647)
 unfolding marker

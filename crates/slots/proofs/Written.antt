@@ -1,7 +1,7 @@
 -- Numbers and rows as bytes. Assumes nothing.
 use mathlib.Core.Path.{_≡_, refl, _∙_, sym, ap}
-use mathlib.Core.List.{List, [], _∷_, _++_, append-assoc, append-nil}
-use Prim.Native.Nat.{ℕ, suc, _+_, _-_, _*_, _/_, _%_, _<_, _≤_}
+use mathlib.Core.List.{[], _∷_, _++_, append-assoc, append-nil}
+use Prim.Native.Nat.{ℕ, _+_, _-_, _*_, _/_, _%_, _<_}
 use native.Mathlib.Numerals.{add-one}
 use native.Mathlib.Omega.{arith}
 use lib.ListN.{length, take, getD, replicate, length-append, replicate-append-replicate}
@@ -27,11 +27,11 @@ digits a b c d x ha hb hc hd e =
     let e3 : x ≡ b * 65536 + c * 256 + d + a * 16777216 = omega arith in
     let f : a * 256 + b ≡ b + a * 256 = omega arith in
     λ i.
-      mod256 x d (a * 65536 + b * 256 + c) e0 hd i
-      ∷ mod256 (x / 256) c (a * 256 + b) (div256 x d (a * 65536 + b * 256 + c) e0 hd ∙ e1) hc i
-      ∷ mod256 (x / 65536) b a (div65536 x (c * 256 + d) (a * 256 + b) e2 (omega arith) ∙ f) hb i
-      ∷ div16777216 x (b * 65536 + c * 256 + d) a e3 (omega arith) i
-      ∷ []
+    mod256 x d (a * 65536 + b * 256 + c) e0 hd i
+    ∷ mod256 (x / 256) c (a * 256 + b) (div256 x d (a * 65536 + b * 256 + c) e0 hd ∙ e1) hc i
+    ∷ mod256 (x / 65536) b a (div65536 x (c * 256 + d) (a * 256 + b) e2 (omega arith) ∙ f) hb i
+    ∷ div16777216 x (b * 65536 + c * 256 + d) a e3 (omega arith) i
+    ∷ []
 
 one : (v : ℕ) → v / 16777216 ≡ v / 65536 / 256
 one v = omega arith

@@ -2,7 +2,7 @@
 use mathlib.Core.Path.{_≡_, refl, _∙_, sym, ap}
 use mathlib.Core.List.{List, [], _∷_, _++_}
 use mathlib.Core.Bool.{Bool, true, false, _&&_, and-true, and-false, and-assoc}
-use Prim.Native.Nat.{ℕ, suc, _+_, _*_, _-_, _<_, _≤_}
+use Prim.Native.Nat.{ℕ, _+_, _*_, _-_, _<_, _≤_}
 use native.Mathlib.Decide.{decLe}
 use native.Mathlib.Numerals.{add-one}
 use native.Mathlib.Omega.{arith}
@@ -10,9 +10,8 @@ use borrow.Author.Tests.{eq-eqb, ne-eqb}
 use lib.Dec.{eqb}
 use lib.ListN.{length, getD, take, drop, take-append-drop, drop-of-length-le}
 use lib.Seq.{drop-cons, drop-drop, take-add}
-use Rattle.names.specs.Names.{limit}
 use Rattle.slots.specs.Bytes.{Bytes, at16, at32, at64, every, isZero, allZero, tupleSize}
-use Rattle.slots.specs.Slots.{headSize, slotSize}
+use Rattle.slots.specs.Slots.{headSize}
 
 -- ── a test of every element of a row ──
 
@@ -52,11 +51,11 @@ module _ {A : Type 0} (f : A → Bool) where
 zero-by : (z x y : ℕ) → (z ≡ 0 → x ≡ 0) → (z ≡ 0 → y ≡ 0) → (x ≡ 0 → y ≡ 0 → z ≡ 0) → eqb x 0 && eqb y 0 ≡ eqb z 0
 zero-by z x y f g k = elim (decLe x 0) [
   | yes h ↦
-    let h' : x ≡ 0 = omega arith in
-    elim (decLe y 0) [
-      | yes j ↦ let j' : y ≡ 0 = omega arith in (λ i. eq-eqb x 0 h' i && eq-eqb y 0 j' i) ∙ sym (eq-eqb z 0 (k h' j'))
-      | no j ↦ (λ i. eq-eqb x 0 h' i && ne-eqb y 0 (λ e. omega arith) i) ∙ sym (ne-eqb z 0 (λ e. let w = g e in omega arith))
-    ]
+      let h' : x ≡ 0 = omega arith in
+      elim (decLe y 0) [
+        | yes j ↦ let j' : y ≡ 0 = omega arith in (λ i. eq-eqb x 0 h' i && eq-eqb y 0 j' i) ∙ sym (eq-eqb z 0 (k h' j'))
+        | no j ↦ (λ i. eq-eqb x 0 h' i && ne-eqb y 0 (λ e. omega arith) i) ∙ sym (ne-eqb z 0 (λ e. let w = g e in omega arith))
+      ]
   | no h ↦ (λ i. ne-eqb x 0 (λ e. omega arith) i && eqb y 0) ∙ sym (ne-eqb z 0 (λ e. let w = f e in omega arith))
 ]
 

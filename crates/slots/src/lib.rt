@@ -268,8 +268,7 @@ fn zero_after(s: &[u8], d: usize) -> bool
             break true;
         }
         k -= 1;
-        if zero_at(s, HEAD + TUPLE * k) {
-        } else {
+        if zero_at(s, HEAD + TUPLE * k) {} else {
             break false;
         }
     }

@@ -1,17 +1,14 @@
+-- `names::compare` meets its contract. Assumes nothing.
 use mathlib.Core.Path.{_≡_, refl, _∙_, sym}
-use Prim.Native.Nat.{ℕ, _+_, _-_, _<_, _≤_}
+use Prim.Native.Nat.{_-_, _≤_}
 use native.Mathlib.Omega.{arith}
 use borrow.Author.Needs.{needs}
-use lib.ListN.{length, take, drop, getD, length-map}
+use lib.ListN.{length, take, length-map}
 use Rattle.names.specs.Names.{limit, rowOf, m as zeroTuple}
 use Rattle.names.specs.Ordering.{compareRows}
 use Rattle.names.proofs.Compared.{left, left-same, left-less, left-more, left-at, take-min}
 use Rattle.names.proofs.compare.Statement.{statement}
 use Rattle.names.proofs.compare.Tie as tie
-use Rattle.names.proofs.compare.Reads as reads
-use Rattle.names.proofs.compare.Lts as lts
-use Rattle.names.proofs.clamped.Reads as clamp-reads
-use Rattle.names.proofs.compare_tuples.Reads as compare-tuples-reads
 
 abbrev Inv-loop : tie.InvT-loop
 Inv-loop xs ys n m i₀ i =

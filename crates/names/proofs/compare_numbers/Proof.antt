@@ -1,20 +1,16 @@
+-- `names::compare_numbers` meets its contract. Assumes nothing.
 use mathlib.Core.Path.{sym}
 use borrow.Author.Needs.{needs}
 use Rattle.names.proofs.Laws.{ℕ-less, ℕ-same, ℕ-more}
 use Rattle.names.proofs.compare_numbers.Statement.{statement}
 use Rattle.names.proofs.compare_numbers.Tie as tie
-use Rattle.names.proofs.compare_numbers.Reads as reads
-use Rattle.names.proofs.compare_numbers.Lts as lts
 
--- src/lib.rt:34:9
 returns : tie.Need-returns
 returns c = sym (ℕ-less _ _ (c .if1 .taken))
 
--- src/lib.rt:37:9
 returns-2 : tie.Need-returns-2
 returns-2 c = sym (ℕ-more _ _ (c .if2 .taken))
 
--- src/lib.rt:30:1
 returns-3 : tie.Need-returns-3
 returns-3 c = let a = c .before .before .args in sym (ℕ-same (a .a) (a .b) (search needs))
 

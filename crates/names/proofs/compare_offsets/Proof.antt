@@ -1,19 +1,15 @@
+-- `names::compare_offsets` meets its contract. Assumes nothing.
 use mir.Syntax.{w32}
 use Rattle.names.proofs.Signed.{tested}
 use Rattle.names.proofs.compare_offsets.Statement.{statement}
 use Rattle.names.proofs.compare_offsets.Tie as tie
-use Rattle.names.proofs.compare_offsets.Reads as reads
-use Rattle.names.proofs.compare_offsets.Lts as lts
 
--- src/lib.rt:47:9
 returns : tie.Need-returns
 returns c = let s = c .before in simp (tested w32 (s .fits .a) (s .fits .b) (c .if1 .taken))
 
--- src/lib.rt:50:9
 returns-2 : tie.Need-returns-2
 returns-2 c = let s = c .before .before in simp (tested w32 (s .fits .a) (s .fits .b) (c .before .if1 .left), tested w32 (s .fits .b) (s .fits .a) (c .if2 .taken))
 
--- src/lib.rt:43:1
 returns-3 : tie.Need-returns-3
 returns-3 c = let s = c .before .before in simp (tested w32 (s .fits .a) (s .fits .b) (c .before .if1 .left), tested w32 (s .fits .b) (s .fits .a) (c .if2 .left))
 

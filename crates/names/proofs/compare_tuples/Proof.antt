@@ -1,60 +1,43 @@
+-- `names::compare_tuples` meets its contract. Assumes nothing.
 use mathlib.Core.Path.{_∙_}
-use mir.Syntax.{w32}
 use Rattle.names.proofs.Compared.{tuple-by}
 use borrow.Author.Needs.{needs}
 use Rattle.names.proofs.compare_tuples.Statement.{statement}
 use Rattle.names.proofs.compare_tuples.Tie as tie
-use Rattle.names.proofs.compare_tuples.Reads as reads
-use Rattle.names.proofs.compare_tuples.Lts as lts
-use Rattle.names.proofs.compare_numbers.Reads as compare-numbers-reads
-use Rattle.names.proofs.compare_offsets.Reads as compare-offsets-reads
-use Rattle.names.proofs.first_of.Reads as first-of-reads
 
--- src/lib.rt:70:36
 cast-compare-numbers : tie.Need-cast-compare-numbers
 cast-compare-numbers c = search needs
 
--- src/lib.rt:70:55
 cast-compare-numbers-2 : tie.Need-cast-compare-numbers-2
 cast-compare-numbers-2 c = search needs
 
--- src/lib.rt:70:9
 compare-numbers-requires : tie.Need-compare-numbers-requires
 compare-numbers-requires c κs = search needs
 
--- src/lib.rt:71:32
 cast-compare-numbers-3 : tie.Need-cast-compare-numbers-3
 cast-compare-numbers-3 c = search needs
 
--- src/lib.rt:71:47
 cast-compare-numbers-4 : tie.Need-cast-compare-numbers-4
 cast-compare-numbers-4 c = search needs
 
--- src/lib.rt:71:9
 compare-numbers-requires-2 : tie.Need-compare-numbers-requires-2
 compare-numbers-requires-2 c κs = search needs
 
--- src/lib.rt:72:9
 compare-numbers-requires-3 : tie.Need-compare-numbers-requires-3
 compare-numbers-requires-3 c κs = search needs
 
--- src/lib.rt:73:9
 compare-offsets-requires : tie.Need-compare-offsets-requires
 compare-offsets-requires c κs = search needs
 
--- src/lib.rt:74:39
 first-of-requires : tie.Need-first-of-requires
 first-of-requires c κs = search needs
 
--- src/lib.rt:74:24
 first-of-requires-2 : tie.Need-first-of-requires-2
 first-of-requires-2 c κs = search needs
 
--- src/lib.rt:74:5
 first-of-requires-3 : tie.Need-first-of-requires-3
 first-of-requires-3 c κs = search needs
 
--- src/lib.rt:67:1
 returns : tie.Need-returns
 returns c = tuple-by _ _ (c .before .before .before .before .before .before .before .before .before .before .compare-numbers .ensures) (c .before .before .before .before .before .before .before .compare-numbers2 .ensures) (c .before .before .before .before .before .before .compare-numbers3 .ensures) (c .before .before .before .compare-offsets .ensures ∙ search needs) (c .before .before .first-of .ensures) (c .before .first-of2 .ensures) (c .first-of3 .ensures)
 

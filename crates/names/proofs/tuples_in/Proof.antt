@@ -1,12 +1,10 @@
+-- `names::tuples_in` meets its contract. Assumes nothing.
 use mathlib.Core.Path.{_∙_}
 use native.Mathlib.Omega.{arith}
 use lib.ListN.{length-map, length-take}
 use borrow.Author.Needs.{needs}
 use Rattle.names.proofs.tuples_in.Statement.{statement}
 use Rattle.names.proofs.tuples_in.Tie as tie
-use Rattle.names.proofs.tuples_in.Reads as reads
-use Rattle.names.proofs.tuples_in.Lts as lts
-use Rattle.names.proofs.clamped.Reads as clamped-reads
 
 clamped-requires : tie.Need-clamped-requires
 clamped-requires c κs = search needs

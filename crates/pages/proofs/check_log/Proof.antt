@@ -1,4 +1,5 @@
-use mathlib.Core.Path.{_≡_, _∙_, sym, ap}
+-- `pages::check_log` meets its contract. Assumes nothing.
+use mathlib.Core.Path.{_∙_, sym, ap}
 use denote.Ref.{now}
 use Rattle.pages.specs.declared.Answer.the-variants.{Accepted}
 use Rattle.pages.specs.Pages.{checkLog}
@@ -6,9 +7,6 @@ use Rattle.pages.proofs.Parts.{length-slots}
 use borrow.Author.Needs.{needs}
 use Rattle.pages.proofs.check_log.Statement.{statement}
 use Rattle.pages.proofs.check_log.Tie as tie
-use Rattle.pages.proofs.check_log.Reads as reads
-use Rattle.pages.proofs.check_log.Lts as lts
-use Rattle.pages.proofs.log_ok.Reads as log-ok-reads
 
 log-ok-requires : tie.Need-log-ok-requires
 log-ok-requires c κs = search needs

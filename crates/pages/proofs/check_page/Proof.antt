@@ -1,18 +1,12 @@
-use mathlib.Core.Path.{_≡_, _∙_, sym, ap}
-use Prim.Native.Nat.{ℕ, _/_}
+-- `pages::check_page` meets its contract. Assumes nothing.
+use mathlib.Core.Path.{_∙_, sym, ap}
 use denote.Ref.{now}
-use lib.ListN.{length}
-use Rattle.slots.specs.Slots.{slotSize}
 use Rattle.pages.specs.declared.Answer.the-variants.{Accepted}
 use Rattle.pages.specs.Pages.{checkPage}
 use Rattle.pages.proofs.Parts.{length-slots}
 use borrow.Author.Needs.{needs}
 use Rattle.pages.proofs.check_page.Statement.{statement}
 use Rattle.pages.proofs.check_page.Tie as tie
-use Rattle.pages.proofs.check_page.Reads as reads
-use Rattle.pages.proofs.check_page.Lts as lts
-use Rattle.pages.proofs.page_ok.Reads as page-ok-reads
-use Rattle.pages.proofs.page_rises.Reads as page-rises-reads
 
 page-ok-requires : tie.Need-page-ok-requires
 page-ok-requires c κs = search needs

@@ -1,11 +1,9 @@
-use mathlib.Core.Path.{_≡_, _∙_, sym, ap}
+-- `pages::check_slot` meets its contract. Assumes nothing.
+use mathlib.Core.Path.{_∙_, sym}
 use Rattle.pages.specs.Pages.{checkSlot}
 use borrow.Author.Needs.{needs}
 use Rattle.pages.proofs.check_slot.Statement.{statement}
 use Rattle.pages.proofs.check_slot.Tie as tie
-use Rattle.pages.proofs.check_slot.Reads as reads
-use Rattle.pages.proofs.check_slot.Lts as lts
-use Rattle.pages.proofs.slot_ok.Reads as slot-ok-reads
 
 slot-ok-requires : tie.Need-slot-ok-requires
 slot-ok-requires c κs = search needs

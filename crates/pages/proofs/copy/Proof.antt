@@ -1,16 +1,15 @@
+-- `pages::copy` meets its contract. Assumes nothing.
 use Rattle.slots.proofs.Put.{put-none}
-use mathlib.Core.Path.{_≡_, refl, _∙_, sym, ap}
-use Prim.Native.Nat.{ℕ, _+_, _-_, _<_, _≤_}
+use mathlib.Core.Path.{_≡_, refl, _∙_, ap}
+use Prim.Native.Nat.{_-_, _≤_}
 use native.Mathlib.Omega.{arith}
 use denote.Ref.{now}
-use lib.ListN.{length, take, getD, length-set}
+use lib.ListN.{length, take, length-set}
 use lib.Seq.{take-all}
 use Rattle.slots.specs.Bytes.{put}
 use Rattle.pages.proofs.Copied.{copied-more}
 use Rattle.pages.proofs.copy.Statement.{statement}
 use Rattle.pages.proofs.copy.Tie as tie
-use Rattle.pages.proofs.copy.Reads as reads
-use Rattle.pages.proofs.copy.Lts as lts
 
 abbrev Inv-loop : tie.InvT-loop
 Inv-loop out₀ p src i₀ out i = (i ≤ length src) × (length out ≡ length out₀) × (out ≡ put out₀ p (take i src))

@@ -1,22 +1,20 @@
-use mathlib.Core.Path.{_≡_, refl, _∙_, sym, ap}
-use mathlib.Core.List.{[], map}
+-- `pages::find` meets its contract. Assumes nothing.
+use mathlib.Core.Path.{refl, _∙_, sym}
+use mathlib.Core.List.{[]}
 use Prim.Native.Nat.{ℕ, _+_, _*_, _-_, _/_, _<_, _≤_}
 use native.Mathlib.Omega.{arith}
 use native.Mathlib.Nat.{not-suc-le-zero}
 use borrow.Author.Needs.{needs}
 use denote.Ref.{now}
-use lib.ListN.{length, drop, getD}
-use Rattle.names.specs.Ordering.{compareRows, _<ⁿ_}
+use lib.ListN.{length, getD}
+use Rattle.names.specs.Ordering.{_<ⁿ_}
 use Rattle.names.proofs.Laws.{rising-Rising, less-row, same-row, more-row}
-use Rattle.slots.specs.Slots.{slotSize, slotOf, nameOf}
-use Rattle.pages.specs.Pages.{parts, nameIn, namesOf}
+use Rattle.slots.specs.Slots.{slotSize, nameOf}
+use Rattle.pages.specs.Pages.{namesOf}
 use Rattle.pages.proofs.Parts.{lent-length, lent-name, length-names}
 use Rattle.pages.proofs.Halving.{found, missed, to-right, to-left}
 use Rattle.pages.proofs.find.Statement.{statement}
 use Rattle.pages.proofs.find.Tie as tie
-use Rattle.pages.proofs.find.Reads as reads
-use Rattle.pages.proofs.find.Lts as lts
-use Rattle.slots.proofs.compare_slots.Reads as compare-slots-reads
 
 abbrev Inv-loop : tie.InvT-loop
 Inv-loop page slot low₀ high₀ low high =

@@ -1,6 +1,7 @@
-use mathlib.Core.Path.{_≡_, refl, _∙_, sym, ap}
+-- `pages::lines_are_zero` meets its contract. Assumes nothing.
+use mathlib.Core.Path.{_≡_, refl, _∙_, sym}
 use mathlib.Core.Bool.{Bool}
-use Prim.Native.Nat.{ℕ, _+_, _*_, _-_, _/_, _<_, _≤_}
+use Prim.Native.Nat.{_-_, _/_, _≤_}
 use native.Mathlib.Omega.{arith}
 use borrow.Author.Tests.{eq-eqb, ne-eqb}
 use denote.Ref.{now}
@@ -8,12 +9,9 @@ use lib.ListN.{length, drop}
 use Rattle.slots.specs.Bytes.{Bytes, every, isZero}
 use Rattle.slots.specs.Slots.{slotSize, slotOf, lineOf}
 use Rattle.pages.specs.Pages.{parts, lineIsZero}
-use Rattle.pages.proofs.Parts.{lent, lent-length, part-at, part-end, every-map}
+use Rattle.pages.proofs.Parts.{lent-length, part-at, part-end, every-map}
 use Rattle.pages.proofs.lines_are_zero.Statement.{statement}
 use Rattle.pages.proofs.lines_are_zero.Tie as tie
-use Rattle.pages.proofs.lines_are_zero.Reads as reads
-use Rattle.pages.proofs.lines_are_zero.Lts as lts
-use Rattle.slots.proofs.read_line.Reads as read-line-reads
 
 blank : Bytes → Bool
 blank s = isZero (lineOf s)

@@ -1,22 +1,16 @@
-use mathlib.Core.Path.{_≡_, _∙_, sym, ap}
+-- `pages::log_ok` meets its contract. Assumes nothing.
+use mathlib.Core.Path.{_≡_, _∙_, sym}
 use mathlib.Core.Bool.{true, false}
-use Prim.Native.Nat.{_<_, _≤_, _/_}
 use native.Mathlib.Omega.{arith}
 use borrow.Author.Tests.{le-leb, lt-leb}
 use denote.Ref.{now}
 use lib.ListN.{length}
 use lib.Dec.{leb}
-use Rattle.slots.specs.Slots.{slotSize}
 use Rattle.pages.specs.Pages.{isLog, slotsOf}
 use Rattle.pages.proofs.Parts.{length-slots}
 use borrow.Author.Needs.{needs}
 use Rattle.pages.proofs.log_ok.Statement.{statement}
 use Rattle.pages.proofs.log_ok.Tie as tie
-use Rattle.pages.proofs.log_ok.Reads as reads
-use Rattle.pages.proofs.log_ok.Lts as lts
-use Rattle.pages.proofs.lines_are_zero.Reads as lines-are-zero-reads
-use Rattle.pages.proofs.page_ok.Reads as page-ok-reads
-use Rattle.pages.proofs.page_rises.Reads as page-rises-reads
 
 page-ok-requires : tie.Need-page-ok-requires
 page-ok-requires c κs = search needs

@@ -1,12 +1,9 @@
+-- `pages::number` meets its contract. Assumes nothing.
 use Rattle.pages.specs.Answers.{numberOf}
 use mathlib.Core.Path.{_∙_, sym, ap}
-use Rattle.pages.specs.Answers.{refusalNumber}
 use borrow.Author.Needs.{needs}
 use Rattle.pages.proofs.number.Statement.{statement}
 use Rattle.pages.proofs.number.Tie as tie
-use Rattle.pages.proofs.number.Reads as reads
-use Rattle.pages.proofs.number.Lts as lts
-use Rattle.pages.proofs.refusal_number.Reads as refusal-number-reads
 
 enum-told : tie.Need-enum-told
 enum-told c = search needs

@@ -1,12 +1,9 @@
-use mathlib.Core.Path.{_≡_, _∙_, sym}
+-- `pages::page_ok` meets its contract. Assumes nothing.
 use borrow.Author.Tests.{eq-eqb, ne-eqb, le-leb, lt-leb}
 use Rattle.pages.specs.Pages.{keepsLayout}
 use borrow.Author.Needs.{needs}
 use Rattle.pages.proofs.page_ok.Statement.{statement}
 use Rattle.pages.proofs.page_ok.Tie as tie
-use Rattle.pages.proofs.page_ok.Reads as reads
-use Rattle.pages.proofs.page_ok.Lts as lts
-use Rattle.pages.proofs.slots_ok.Reads as slots-ok-reads
 
 returns : tie.Need-returns
 unfolding keepsLayout

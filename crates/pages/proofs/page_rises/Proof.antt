@@ -1,20 +1,16 @@
-use Rattle.pages.proofs.Parts.{neighbours, no-neighbours}
-use mathlib.Core.Path.{_≡_, refl, _∙_, sym, ap}
-use mathlib.Core.List.{[], map}
-use Prim.Native.Nat.{ℕ, _+_, _*_, _-_, _/_, _<_, _≤_}
+-- `pages::page_rises` meets its contract. Assumes nothing.
+use Rattle.pages.proofs.Parts.{neighbours, no-neighbours, lent-length}
+use mathlib.Core.Path.{_≡_, refl, _∙_, sym}
+use Prim.Native.Nat.{_+_, _*_, _-_, _/_, _≤_}
 use native.Mathlib.Omega.{arith}
 use borrow.Author.Needs.{needs}
 use denote.Ref.{now}
-use lib.ListN.{length, drop, getD}
-use Rattle.names.specs.Ordering.{compareRows, isLess, rising}
-use Rattle.slots.specs.Slots.{slotSize, slotOf}
-use Rattle.pages.specs.Pages.{parts, nameIn, namesOf}
-use Rattle.pages.proofs.Parts.{lent-length, lent-name, length-names, rising-at, rising-end}
+use lib.ListN.{length, drop}
+use Rattle.names.specs.Ordering.{rising}
+use Rattle.slots.specs.Slots.{slotSize}
+use Rattle.pages.specs.Pages.{namesOf}
 use Rattle.pages.proofs.page_rises.Statement.{statement}
 use Rattle.pages.proofs.page_rises.Tie as tie
-use Rattle.pages.proofs.page_rises.Reads as reads
-use Rattle.pages.proofs.page_rises.Lts as lts
-use Rattle.slots.proofs.compare_slots.Reads as compare-slots-reads
 
 abbrev Inv-loop : tie.InvT-loop
 Inv-loop page n k₀ k = (n ≡ length page / slotSize) × (k ≤ n) × (rising (drop k (namesOf page)) ≡ rising (namesOf page))

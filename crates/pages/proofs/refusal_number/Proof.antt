@@ -1,8 +1,7 @@
+-- `pages::refusal_number` meets its contract. Assumes nothing.
 use borrow.Author.Needs.{needs}
 use Rattle.pages.proofs.refusal_number.Statement.{statement}
 use Rattle.pages.proofs.refusal_number.Tie as tie
-use Rattle.pages.proofs.refusal_number.Reads as reads
-use Rattle.pages.proofs.refusal_number.Lts as lts
 
 enum-told : tie.Need-enum-told
 enum-told c = search needs

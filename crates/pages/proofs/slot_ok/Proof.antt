@@ -1,14 +1,12 @@
-use mathlib.Core.Path.{_≡_, _∙_, sym}
-use borrow.Author.Tests.{eq-eqb, ne-eqb}
+-- `pages::slot_ok` meets its contract. Assumes nothing.
+use mathlib.Core.Path.{_∙_}
+use borrow.Author.Tests.{ne-eqb}
 use denote.Ref.{now}
 use Rattle.slots.specs.Slots.{keepsSlot}
 use Rattle.pages.proofs.Parts.{one-part}
 use borrow.Author.Needs.{needs}
 use Rattle.pages.proofs.slot_ok.Statement.{statement}
 use Rattle.pages.proofs.slot_ok.Tie as tie
-use Rattle.pages.proofs.slot_ok.Reads as reads
-use Rattle.pages.proofs.slot_ok.Lts as lts
-use Rattle.pages.proofs.slots_ok.Reads as slots-ok-reads
 
 returns : tie.Need-returns
 unfolding keepsSlot

@@ -1,5 +1,6 @@
-use mathlib.Core.Path.{_≡_, refl, _∙_, sym, ap}
-use Prim.Native.Nat.{ℕ, _+_, _*_, _-_, _/_, _<_, _≤_}
+-- `pages::slots_ok` meets its contract. Assumes nothing.
+use mathlib.Core.Path.{_≡_, refl, _∙_, sym}
+use Prim.Native.Nat.{_-_, _/_, _≤_}
 use native.Mathlib.Omega.{arith}
 use denote.Ref.{now}
 use lib.ListN.{length, drop}
@@ -9,9 +10,6 @@ use Rattle.pages.specs.Pages.{parts}
 use Rattle.pages.proofs.Parts.{lent-length, part-at, part-end}
 use Rattle.pages.proofs.slots_ok.Statement.{statement}
 use Rattle.pages.proofs.slots_ok.Tie as tie
-use Rattle.pages.proofs.slots_ok.Reads as reads
-use Rattle.pages.proofs.slots_ok.Lts as lts
-use Rattle.slots.proofs.slot_ok.Reads as slot-ok-reads
 
 abbrev Inv-loop : tie.InvT-loop
 Inv-loop page n k₀ k = (n ≡ length page / slotSize) × (k ≤ n) × (every keepsSlot (drop k (parts n page)) ≡ every keepsSlot (parts n page))

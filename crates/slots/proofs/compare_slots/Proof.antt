@@ -1,12 +1,9 @@
+-- `slots::compare_slots` meets its contract. Assumes nothing.
 use mathlib.Core.Path.{_∙_}
 use Rattle.names.specs.Ordering.{compareRows}
 use borrow.Author.Needs.{needs}
 use Rattle.slots.proofs.compare_slots.Statement.{statement}
 use Rattle.slots.proofs.compare_slots.Tie as tie
-use Rattle.slots.proofs.compare_slots.Reads as reads
-use Rattle.slots.proofs.compare_slots.Lts as lts
-use Rattle.names.proofs.compare.Reads as compare-reads
-use Rattle.slots.proofs.read_name.Reads as read-name-reads
 
 read-name-requires : tie.Need-read-name-requires
 read-name-requires c κs = search needs

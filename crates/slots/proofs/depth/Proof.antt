@@ -1,9 +1,8 @@
+-- `slots::depth` meets its contract. Assumes nothing.
 use native.Mathlib.Omega.{arith}
 use borrow.Author.Needs.{needs}
 use Rattle.slots.proofs.depth.Statement.{statement}
 use Rattle.slots.proofs.depth.Tie as tie
-use Rattle.slots.proofs.depth.Reads as reads
-use Rattle.slots.proofs.depth.Lts as lts
 
 shared-slice-read-d : tie.Need-shared-slice-read-d
 shared-slice-read-d c = search needs

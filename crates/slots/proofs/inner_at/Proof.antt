@@ -1,11 +1,8 @@
+-- `slots::inner_at` meets its contract. Assumes nothing.
 use mathlib.Core.Path.{_∙_, sym}
 use borrow.Author.Needs.{needs}
 use Rattle.slots.proofs.inner_at.Statement.{statement}
 use Rattle.slots.proofs.inner_at.Tie as tie
-use Rattle.slots.proofs.inner_at.Reads as reads
-use Rattle.slots.proofs.inner_at.Lts as lts
-use Rattle.slots.proofs.marker_at.Reads as marker-at-reads
-use Rattle.slots.proofs.ordinary_at.Reads as ordinary-at-reads
 
 ordinary-at-requires : tie.Need-ordinary-at-requires
 ordinary-at-requires c κs = search needs

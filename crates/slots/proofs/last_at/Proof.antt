@@ -1,3 +1,4 @@
+-- `slots::last_at` meets its contract. Assumes nothing.
 use mathlib.Core.Path.{_∙_, sym}
 use mathlib.Core.Bool.{_&&_}
 use Prim.Native.Nat.{_+_}
@@ -8,10 +9,6 @@ use Rattle.slots.proofs.Sorts.{last-by}
 use borrow.Author.Needs.{needs}
 use Rattle.slots.proofs.last_at.Statement.{statement}
 use Rattle.slots.proofs.last_at.Tie as tie
-use Rattle.slots.proofs.last_at.Reads as reads
-use Rattle.slots.proofs.last_at.Lts as lts
-use Rattle.slots.proofs.ordinary_at.Reads as ordinary-at-reads
-use Rattle.slots.proofs.read_u32.Reads as read-u32-reads
 
 ordinary-at-requires : tie.Need-ordinary-at-requires
 ordinary-at-requires c κs = search needs

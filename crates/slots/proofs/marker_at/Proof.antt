@@ -1,16 +1,13 @@
-use mathlib.Core.Path.{_≡_, refl, _∙_, sym, ap}
+-- `slots::marker_at` meets its contract. Assumes nothing.
+use mathlib.Core.Path.{_∙_, sym}
 use mathlib.Core.Bool.{or-false}
 use native.Mathlib.Omega.{arith}
 use denote.Ref.{now}
-use borrow.Author.Tests.{eq-eqb, ne-eqb}
+use borrow.Author.Tests.{ne-eqb}
 use Rattle.slots.proofs.Sorts.{marker-by}
 use borrow.Author.Needs.{needs}
 use Rattle.slots.proofs.marker_at.Statement.{statement}
 use Rattle.slots.proofs.marker_at.Tie as tie
-use Rattle.slots.proofs.marker_at.Reads as reads
-use Rattle.slots.proofs.marker_at.Lts as lts
-use Rattle.slots.proofs.read_u32.Reads as read-u32-reads
-use Rattle.slots.proofs.read_u64.Reads as read-u64-reads
 
 read-u64-requires : tie.Need-read-u64-requires
 read-u64-requires c κs = search needs

@@ -1,19 +1,14 @@
-use mathlib.Core.Path.{_≡_, refl, _∙_, sym, ap}
-use Prim.Native.Nat.{_+_, _-_, _<_, _≤_}
+-- `slots::name_at` meets its contract. Assumes nothing.
+use mathlib.Core.Path.{_≡_, refl, _∙_, sym}
+use Prim.Native.Nat.{_-_, _<_}
 use native.Mathlib.Omega.{arith}
 use denote.Ref.{now}
 use lib.ListN.{drop}
-use borrow.Author.Needs.{needs}
 use Rattle.names.specs.Names.{endsWell}
 use Rattle.slots.specs.Bytes.{tuplesAt}
 use Rattle.slots.proofs.Inside.{ends-last, ends-at, name-by}
 use Rattle.slots.proofs.name_at.Statement.{statement}
 use Rattle.slots.proofs.name_at.Tie as tie
-use Rattle.slots.proofs.name_at.Reads as reads
-use Rattle.slots.proofs.name_at.Lts as lts
-use Rattle.slots.proofs.inner_at.Reads as inner-at-reads
-use Rattle.slots.proofs.last_at.Reads as last-at-reads
-use Rattle.slots.proofs.ordinary_at.Reads as ordinary-at-reads
 
 abbrev Inv-loop : tie.InvT-loop
 Inv-loop s p n i₀ i = (i < n) × (endsWell (drop i (tuplesAt s p n)) ≡ endsWell (tuplesAt s p n))

@@ -1,3 +1,4 @@
+-- `slots::offset_ok` meets its contract. Assumes nothing.
 use mathlib.Core.Path.{_∙_, ap}
 use Prim.Native.Nat.{ℕ}
 use native.Mathlib.Omega.{arith}
@@ -6,9 +7,6 @@ use Rattle.slots.proofs.Sorts.{offset-by}
 use borrow.Author.Needs.{needs}
 use Rattle.slots.proofs.offset_ok.Statement.{statement}
 use Rattle.slots.proofs.offset_ok.Tie as tie
-use Rattle.slots.proofs.offset_ok.Reads as reads
-use Rattle.slots.proofs.offset_ok.Lts as lts
-use Rattle.std.proofs.num.wrapping_add_u32.Reads as wrapping-add-u32-reads
 
 wrapping-add-u32-requires : tie.Need-wrapping-add-u32-requires
 wrapping-add-u32-requires c κs = search needs

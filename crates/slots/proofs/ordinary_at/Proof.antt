@@ -1,3 +1,4 @@
+-- `slots::ordinary_at` meets its contract. Assumes nothing.
 use mathlib.Core.Path.{_∙_, ap}
 use native.Mathlib.Omega.{arith}
 use denote.Ref.{now}
@@ -8,11 +9,6 @@ use Rattle.slots.proofs.Sorts.{low-position, high-position, no-node, by
 use borrow.Author.Needs.{needs}
 use Rattle.slots.proofs.ordinary_at.Statement.{statement}
 use Rattle.slots.proofs.ordinary_at.Tie as tie
-use Rattle.slots.proofs.ordinary_at.Reads as reads
-use Rattle.slots.proofs.ordinary_at.Lts as lts
-use Rattle.slots.proofs.offset_ok.Reads as offset-ok-reads
-use Rattle.slots.proofs.read_u16.Reads as read-u16-reads
-use Rattle.slots.proofs.read_u32.Reads as read-u32-reads
 
 read-u16-requires : tie.Need-read-u16-requires
 read-u16-requires c κs = search needs

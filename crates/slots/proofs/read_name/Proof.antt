@@ -1,13 +1,10 @@
+-- `slots::read_name` meets its contract. Assumes nothing.
 use mathlib.Core.Path.{_∙_}
 use denote.Ref.{now}
 use Rattle.slots.proofs.Inside.{name-is}
 use borrow.Author.Needs.{needs}
 use Rattle.slots.proofs.read_name.Statement.{statement}
 use Rattle.slots.proofs.read_name.Tie as tie
-use Rattle.slots.proofs.read_name.Reads as reads
-use Rattle.slots.proofs.read_name.Lts as lts
-use Rattle.slots.proofs.depth.Reads as depth-reads
-use Rattle.slots.proofs.read_row.Reads as read-row-reads
 
 depth-requires : tie.Need-depth-requires
 depth-requires c κs = search needs

@@ -1,5 +1,6 @@
+-- `slots::read_row` meets its contract. Assumes nothing.
 use denote.Ref.{now}
-use mathlib.Core.Path.{_≡_, refl, _∙_, sym, ap}
+use mathlib.Core.Path.{_≡_, refl}
 use Prim.Native.Nat.{ℕ, _+_, _*_, _-_, _<_, _≤_}
 use native.Mathlib.Omega.{arith}
 use borrow.Author.Count.{below-none}
@@ -9,9 +10,6 @@ use Rattle.slots.specs.Bytes.{tupleAt, tupleSize}
 use Rattle.slots.proofs.Rows.{filled-more, filled-all}
 use Rattle.slots.proofs.read_row.Statement.{statement}
 use Rattle.slots.proofs.read_row.Tie as tie
-use Rattle.slots.proofs.read_row.Reads as reads
-use Rattle.slots.proofs.read_row.Lts as lts
-use Rattle.slots.proofs.read_tuple.Reads as read-tuple-reads
 
 abbrev Inv-loop : tie.InvT-loop
 Inv-loop s p n tuples₀ k₀ tuples k = (length tuples ≡ limit) × (k ≤ n) × ((j : ℕ) → j < k → getD tuples j m ≡ tupleAt s (p + tupleSize * j))

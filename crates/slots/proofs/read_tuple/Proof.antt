@@ -1,15 +1,11 @@
-use mathlib.Core.Path.{_≡_, _∙_, ap}
+-- `slots::read_tuple` meets its contract. Assumes nothing.
+use mathlib.Core.Path.{_∙_, ap}
 use mir.Syntax.{w32}
 use mir.ValLaws.{toZ-ofZ}
 use Rattle.slots.specs.Bytes.{signed, tupleAt}
 use borrow.Author.Needs.{needs}
 use Rattle.slots.proofs.read_tuple.Statement.{statement}
 use Rattle.slots.proofs.read_tuple.Tie as tie
-use Rattle.slots.proofs.read_tuple.Reads as reads
-use Rattle.slots.proofs.read_tuple.Lts as lts
-use Rattle.slots.proofs.read_u16.Reads as read-u16-reads
-use Rattle.slots.proofs.read_u32.Reads as read-u32-reads
-use Rattle.slots.proofs.to_signed.Reads as to-signed-reads
 
 read-u16-requires : tie.Need-read-u16-requires
 read-u16-requires c κs = search needs

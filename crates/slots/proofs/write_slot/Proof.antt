@@ -1,6 +1,7 @@
-use mathlib.Core.Path.{_≡_, refl, _∙_, sym, ap}
+-- `slots::write_slot` meets its contract. Assumes nothing.
+use mathlib.Core.Path.{_≡_, refl, _∙_, ap}
 use mathlib.Core.List.{_++_}
-use Prim.Native.Nat.{ℕ, _+_, _*_, _-_, _<_, _≤_}
+use Prim.Native.Nat.{ℕ, _+_, _*_, _-_, _≤_}
 use native.Mathlib.Omega.{arith}
 use denote.Ref.{now}
 use lib.ListN.{length, replicate, length-append}
@@ -12,12 +13,6 @@ use Rattle.slots.proofs.Written.{row-length, slot-bytes}
 use borrow.Author.Needs.{needs}
 use Rattle.slots.proofs.write_slot.Statement.{statement}
 use Rattle.slots.proofs.write_slot.Tie as tie
-use Rattle.slots.proofs.write_slot.Reads as reads
-use Rattle.slots.proofs.write_slot.Lts as lts
-use Rattle.names.proofs.tuples_in.Reads as tuples-in-reads
-use Rattle.slots.proofs.write_row.Reads as write-row-reads
-use Rattle.slots.proofs.write_u32.Reads as write-u32-reads
-use Rattle.slots.proofs.write_zeros.Reads as write-zeros-reads
 
 tuples-in-requires : tie.Need-tuples-in-requires
 tuples-in-requires c κs = search needs

@@ -1,4 +1,5 @@
-use mathlib.Core.Path.{_≡_, refl, _∙_, sym, ap}
+-- `slots::write_tuple` meets its contract. Assumes nothing.
+use mathlib.Core.Path.{_≡_, refl, _∙_, ap}
 use mathlib.Core.List.{_++_}
 use Prim.Native.Nat.{ℕ, _+_, _<_, _≤_}
 use native.Mathlib.Omega.{arith}
@@ -12,10 +13,6 @@ use Rattle.slots.proofs.Written.{pair}
 use borrow.Author.Needs.{needs}
 use Rattle.slots.proofs.write_tuple.Statement.{statement}
 use Rattle.slots.proofs.write_tuple.Tie as tie
-use Rattle.slots.proofs.write_tuple.Reads as reads
-use Rattle.slots.proofs.write_tuple.Lts as lts
-use Rattle.slots.proofs.to_unsigned.Reads as to-unsigned-reads
-use Rattle.slots.proofs.write_u32.Reads as write-u32-reads
 
 cast-write-u32 : tie.Need-cast-write-u32
 cast-write-u32 c = search needs

@@ -1,5 +1,6 @@
+-- `slots::write_u32` meets its contract. Assumes nothing.
 use mathlib.Core.Path.{_≡_, _∙_, ap}
-use Prim.Native.Nat.{ℕ, suc, _+_}
+use Prim.Native.Nat.{suc, _+_}
 use native.Mathlib.Omega.{arith}
 use denote.Ref.{now}
 use lib.ListN.{length-set}
@@ -9,9 +10,6 @@ use Rattle.slots.proofs.Written.{low, low-turned}
 use borrow.Author.Needs.{needs}
 use Rattle.slots.proofs.write_u32.Statement.{statement}
 use Rattle.slots.proofs.write_u32.Tie as tie
-use Rattle.slots.proofs.write_u32.Reads as reads
-use Rattle.slots.proofs.write_u32.Lts as lts
-use Rattle.slots.proofs.turned32.Reads as turned32-reads
 
 turned32-requires : tie.Need-turned32-requires
 turned32-requires c κs = search needs

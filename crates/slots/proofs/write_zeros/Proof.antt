@@ -1,6 +1,7 @@
+-- `slots::write_zeros` meets its contract. Assumes nothing.
 use mathlib.Core.Path.{_≡_, refl, _∙_, sym, ap}
 use mathlib.Core.List.{[], _∷_}
-use Prim.Native.Nat.{ℕ, _+_, _*_, _-_, _<_, _≤_}
+use Prim.Native.Nat.{ℕ, _+_, _*_, _-_, _≤_}
 use native.Mathlib.Omega.{arith}
 use denote.Ref.{now}
 use lib.ListN.{length, replicate, length-replicate}
@@ -9,9 +10,6 @@ use Rattle.slots.proofs.Put.{put-more, put-none}
 use Rattle.slots.proofs.Written.{zeros-on}
 use Rattle.slots.proofs.write_zeros.Statement.{statement}
 use Rattle.slots.proofs.write_zeros.Tie as tie
-use Rattle.slots.proofs.write_zeros.Reads as reads
-use Rattle.slots.proofs.write_zeros.Lts as lts
-use Rattle.slots.proofs.write_u32.Reads as write-u32-reads
 
 abbrev Inv-loop : tie.InvT-loop
 Inv-loop out₀ p n k₀ out k = (k ≤ n) × (length out ≡ length out₀) × (out ≡ put out₀ p (replicate (4 * k) 0))

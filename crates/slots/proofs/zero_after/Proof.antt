@@ -1,3 +1,4 @@
+-- `slots::zero_after` meets its contract. Assumes nothing.
 use mathlib.Core.Path.{_≡_, _∙_, sym, ap}
 use mathlib.Core.Bool.{true}
 use Prim.Native.Nat.{ℕ, _+_, _*_, _≤_}
@@ -10,9 +11,6 @@ use Rattle.slots.specs.Slots.{headSize}
 use Rattle.slots.proofs.Zeros.{every-end, zeros-more, zeros-fail}
 use Rattle.slots.proofs.zero_after.Statement.{statement}
 use Rattle.slots.proofs.zero_after.Tie as tie
-use Rattle.slots.proofs.zero_after.Reads as reads
-use Rattle.slots.proofs.zero_after.Lts as lts
-use Rattle.slots.proofs.zero_at.Reads as zero-at-reads
 
 abbrev Inv-loop : tie.InvT-loop
 Inv-loop s d k₀ k = (d ≤ k) × (k ≤ limit) × (allZero (drop (headSize + tupleSize * k) s) ≡ true)

@@ -1,3 +1,4 @@
+-- `slots::zero_at` meets its contract. Assumes nothing.
 use mathlib.Core.Path.{_∙_, sym}
 use mathlib.Core.Bool.{_&&_}
 use Prim.Native.Nat.{_+_}
@@ -10,10 +11,6 @@ use Rattle.slots.proofs.Zeros.{zero96}
 use borrow.Author.Needs.{needs}
 use Rattle.slots.proofs.zero_at.Statement.{statement}
 use Rattle.slots.proofs.zero_at.Tie as tie
-use Rattle.slots.proofs.zero_at.Reads as reads
-use Rattle.slots.proofs.zero_at.Lts as lts
-use Rattle.slots.proofs.read_u32.Reads as read-u32-reads
-use Rattle.slots.proofs.read_u64.Reads as read-u64-reads
 
 read-u64-requires : tie.Need-read-u64-requires
 read-u64-requires c κs = search needs

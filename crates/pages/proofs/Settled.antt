@@ -1,0 +1,49 @@
+-- Each public function's promise settles its outcome: any two outcomes that the contract allows are equal. `Learnt` is what a
+-- caller learns from the contract, of any arguments a, result r and parameters at exit s. Assumes nothing.
+use mathlib.Core.Path.{_≡_}
+use denote.Ref.{now}
+use Rattle.names.proofs.Settled.{one}
+use Rattle.pages.proofs.number.Reads as number
+use Rattle.pages.proofs.count.Reads as count
+use Rattle.pages.proofs.page_ok.Reads as page-ok
+use Rattle.pages.proofs.slot_ok.Reads as slot-ok
+use Rattle.pages.proofs.page_rises.Reads as page-rises
+use Rattle.pages.proofs.log_ok.Reads as log-ok
+use Rattle.pages.proofs.check_page.Reads as check-page
+use Rattle.pages.proofs.check_log.Reads as check-log
+use Rattle.pages.proofs.check_slot.Reads as check-slot
+use Rattle.pages.proofs.find.Reads as find
+use Rattle.pages.proofs.copy.Reads as copy
+
+pub number-settled : (κs : _) (a : _) (r : _) (s : _) (r' : _) (s' : _) → number.Learnt κs a r s → number.Learnt κs a r' s' → r ≡ r'
+number-settled κs a r s r' s' p q = one p q
+
+pub count-settled : (κs : _) (a : _) (r : _) (s : _) (r' : _) (s' : _) → count.Learnt κs a r s → count.Learnt κs a r' s' → r ≡ r'
+count-settled κs a r s r' s' p q = one p q
+
+pub page-ok-settled : (κs : _) (a : _) (r : _) (s : _) (r' : _) (s' : _) → page-ok.Learnt κs a r s → page-ok.Learnt κs a r' s' → r ≡ r'
+page-ok-settled κs a r s r' s' p q = one p q
+
+pub slot-ok-settled : (κs : _) (a : _) (r : _) (s : _) (r' : _) (s' : _) → slot-ok.Learnt κs a r s → slot-ok.Learnt κs a r' s' → r ≡ r'
+slot-ok-settled κs a r s r' s' p q = one p q
+
+pub page-rises-settled : (κs : _) (a : _) (r : _) (s : _) (r' : _) (s' : _) → page-rises.Learnt κs a r s → page-rises.Learnt κs a r' s' → r ≡ r'
+page-rises-settled κs a r s r' s' p q = one p q
+
+pub log-ok-settled : (κs : _) (a : _) (r : _) (s : _) (r' : _) (s' : _) → log-ok.Learnt κs a r s → log-ok.Learnt κs a r' s' → r ≡ r'
+log-ok-settled κs a r s r' s' p q = one p q
+
+pub check-page-settled : (κs : _) (a : _) (r : _) (s : _) (r' : _) (s' : _) → check-page.Learnt κs a r s → check-page.Learnt κs a r' s' → r ≡ r'
+check-page-settled κs a r s r' s' p q = one p q
+
+pub check-log-settled : (κs : _) (a : _) (r : _) (s : _) (r' : _) (s' : _) → check-log.Learnt κs a r s → check-log.Learnt κs a r' s' → r ≡ r'
+check-log-settled κs a r s r' s' p q = one p q
+
+pub check-slot-settled : (κs : _) (a : _) (r : _) (s : _) (r' : _) (s' : _) → check-slot.Learnt κs a r s → check-slot.Learnt κs a r' s' → r ≡ r'
+check-slot-settled κs a r s r' s' p q = one p q
+
+pub find-settled : (κs : _) (a : _) (r : _) (s : _) (r' : _) (s' : _) → find.Learnt κs a r s → find.Learnt κs a r' s' → r ≡ r'
+find-settled κs a r s r' s' p q = one p q
+
+pub copy-settled : (κs : _) (a : _) (r : _) (s : _) (r' : _) (s' : _) → copy.Learnt κs a r s → copy.Learnt κs a r' s' → now (s .0) ≡ now (s' .0)
+copy-settled κs a r s r' s' p q = one p q

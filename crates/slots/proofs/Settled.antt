@@ -1,0 +1,62 @@
+-- Each public function's promise settles its outcome: any two outcomes that the contract allows are equal. `Learnt` is what a
+-- caller learns from the contract, of any arguments a, result r and parameters at exit s. Assumes nothing.
+use mathlib.Core.Path.{_≡_}
+use denote.Ref.{now}
+use Rattle.names.specs.Names.{rowOf}
+use Rattle.names.proofs.Settled.{one}
+use Rattle.slots.proofs.read_u16.Reads as read-u16
+use Rattle.slots.proofs.read_u32.Reads as read-u32
+use Rattle.slots.proofs.read_tuple.Reads as read-tuple
+use Rattle.slots.proofs.read_row.Reads as read-row
+use Rattle.slots.proofs.depth.Reads as depth
+use Rattle.slots.proofs.read_line.Reads as read-line
+use Rattle.slots.proofs.read_name.Reads as read-name
+use Rattle.slots.proofs.compare_slots.Reads as compare-slots
+use Rattle.slots.proofs.name_at.Reads as name-at
+use Rattle.slots.proofs.slot_ok.Reads as slot-ok
+use Rattle.slots.proofs.write_u32.Reads as write-u32
+use Rattle.slots.proofs.write_tuple.Reads as write-tuple
+use Rattle.slots.proofs.write_row.Reads as write-row
+use Rattle.slots.proofs.write_slot.Reads as write-slot
+
+pub read-u16-settled : (κs : _) (a : _) (r : _) (s : _) (r' : _) (s' : _) → read-u16.Learnt κs a r s → read-u16.Learnt κs a r' s' → r ≡ r'
+read-u16-settled κs a r s r' s' p q = one p q
+
+pub read-u32-settled : (κs : _) (a : _) (r : _) (s : _) (r' : _) (s' : _) → read-u32.Learnt κs a r s → read-u32.Learnt κs a r' s' → r ≡ r'
+read-u32-settled κs a r s r' s' p q = one p q
+
+pub read-tuple-settled : (κs : _) (a : _) (r : _) (s : _) (r' : _) (s' : _) → read-tuple.Learnt κs a r s → read-tuple.Learnt κs a r' s' → r ≡ r'
+read-tuple-settled κs a r s r' s' p q = one p q
+
+pub read-row-settled : (κs : _) (a : _) (r : _) (s : _) (r' : _) (s' : _) → read-row.Learnt κs a r s → read-row.Learnt κs a r' s' → rowOf r ≡ rowOf r'
+read-row-settled κs a r s r' s' p q = one p q
+
+pub depth-settled : (κs : _) (a : _) (r : _) (s : _) (r' : _) (s' : _) → depth.Learnt κs a r s → depth.Learnt κs a r' s' → r ≡ r'
+depth-settled κs a r s r' s' p q = one p q
+
+pub read-line-settled : (κs : _) (a : _) (r : _) (s : _) (r' : _) (s' : _) → read-line.Learnt κs a r s → read-line.Learnt κs a r' s' → r ≡ r'
+read-line-settled κs a r s r' s' p q = one p q
+
+pub read-name-settled : (κs : _) (a : _) (r : _) (s : _) (r' : _) (s' : _) → read-name.Learnt κs a r s → read-name.Learnt κs a r' s' → rowOf r ≡ rowOf r'
+read-name-settled κs a r s r' s' p q = one p q
+
+pub compare-slots-settled : (κs : _) (a : _) (r : _) (s : _) (r' : _) (s' : _) → compare-slots.Learnt κs a r s → compare-slots.Learnt κs a r' s' → r ≡ r'
+compare-slots-settled κs a r s r' s' p q = one p q
+
+pub name-at-settled : (κs : _) (a : _) (r : _) (s : _) (r' : _) (s' : _) → name-at.Learnt κs a r s → name-at.Learnt κs a r' s' → r ≡ r'
+name-at-settled κs a r s r' s' p q = one p q
+
+pub slot-ok-settled : (κs : _) (a : _) (r : _) (s : _) (r' : _) (s' : _) → slot-ok.Learnt κs a r s → slot-ok.Learnt κs a r' s' → r ≡ r'
+slot-ok-settled κs a r s r' s' p q = one p q
+
+pub write-u32-settled : (κs : _) (a : _) (r : _) (s : _) (r' : _) (s' : _) → write-u32.Learnt κs a r s → write-u32.Learnt κs a r' s' → now (s .0) ≡ now (s' .0)
+write-u32-settled κs a r s r' s' p q = one p q
+
+pub write-tuple-settled : (κs : _) (a : _) (r : _) (s : _) (r' : _) (s' : _) → write-tuple.Learnt κs a r s → write-tuple.Learnt κs a r' s' → now (s .0) ≡ now (s' .0)
+write-tuple-settled κs a r s r' s' p q = one p q
+
+pub write-row-settled : (κs : _) (a : _) (r : _) (s : _) (r' : _) (s' : _) → write-row.Learnt κs a r s → write-row.Learnt κs a r' s' → now (s .0) ≡ now (s' .0)
+write-row-settled κs a r s r' s' p q = one p q
+
+pub write-slot-settled : (κs : _) (a : _) (r : _) (s : _) (r' : _) (s' : _) → write-slot.Learnt κs a r s → write-slot.Learnt κs a r' s' → now (s .0) ≡ now (s' .0)
+write-slot-settled κs a r s r' s' p q = one p q
