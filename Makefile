@@ -1,6 +1,3 @@
-# The last line of make test is the verdict: make must add none of its own after it.
-MAKEFLAGS += --no-print-directory
-
 .PHONY: run test cost clean
 
 # Proves the crates and lists the sample book.

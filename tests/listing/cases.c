@@ -483,7 +483,7 @@ static size_t slot_count(void)
 static void damage_byte(void)
 {
     size_t slot = random_below(slot_count());
-    size_t used = HEAD_BYTES + slot_bytes(slot)[0] * TUPLE_BYTES;
+    size_t used = HEAD_BYTES + (size_t)slot_bytes(slot)[0] * TUPLE_BYTES;
     size_t at = random_below(random_below(4) == 0 ? SLOT_BYTES : used);
     slot_bytes(slot)[at] ^= (uint8_t)(1 + random_below(255));
 }

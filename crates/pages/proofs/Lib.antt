@@ -2,4 +2,5 @@ pub mod Parts
 pub mod Halving
 pub mod Copied
 pub mod RoundTrip
+pub mod Outcomes
 pub mod Settled
