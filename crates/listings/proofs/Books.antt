@@ -1,4 +1,4 @@
--- The lines of a page's slots, one after the other as the code lends them. Assumes nothing.
+-- The lines of a page's slots, one after the other as the code lends them, and what an answer says of the listing. Assumes nothing.
 use mathlib.Core.Path.{_≡_, refl, _∙_, sym, ap}
 use mathlib.Core.List.{List, [], _∷_, _++_, append-assoc, append-nil, map}
 use mathlib.Core.Bool.{Bool, true, false}

@@ -1,4 +1,4 @@
--- The texts of offsets, tuples, names and lines: their parts, and the most bytes that each takes. Assumes nothing.
+-- The texts of offsets, names and lines, by the parts that the code writes. Assumes nothing.
 use mathlib.Core.Path.{_≡_, refl, _∙_, sym, ap}
 use mathlib.Core.List.{_++_}
 use mathlib.Core.Bool.{true, false}

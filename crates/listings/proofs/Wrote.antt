@@ -16,7 +16,7 @@ wrote-more o p h w s a b = (omega (arith, a .0, b .0, length-append w s), put-mo
 
 -- the same text said in another way
 pub wrote-as : (o : Bytes) (p : ℕ) {w s : Bytes} {r : ℕ} {e : Bytes} → w ≡ s → Wrote o p w r e → Wrote o p s r e
-wrote-as o p {w} {s} {r} {e} q a = (a .0 ∙ ap (λ (l : Bytes). p + length l) q, a .1 ∙ ap (put o p) q)
+wrote-as o p q a = (a .0 ∙ ap (λ (l : Bytes). p + length l) q, a .1 ∙ ap (put o p) q)
 
 -- a text of two parts
 pub wrote-two : (o : Bytes) (p : ℕ) → p ≤ length o → (w s t : Bytes) {q r : ℕ} {d e : Bytes} → Wrote o p w q d → Wrote d q (s ++ t) r e → Wrote o p (w ++ s ++ t) r e

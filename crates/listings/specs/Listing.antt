@@ -65,11 +65,13 @@ bookText l = header ++ linesText l
 unfoldable pub refusedText : ℕ → Bytes
 refusedText n = ascii "refused " ++ decimal n ++ ascii "\n"
 
+-- the lines of an accepted page, or the number of the refusal
 abbrev pub answerText : Answer → Bytes → Bytes
 answerText (Accepted n) page = bookText (slotsOf page)
 answerText (Refused r) page = refusedText (refusalNumber r)
 
--- "input above 26,624 bytes is `refused 1`": rest is what comes after the bytes of a whole page
+-- "input above 26,624 bytes is `refused 1`": rest is what comes after as many bytes as the largest page has. proofs/Whole.antt
+-- has that the input as a whole is listed as it is checked.
 abbrev pub checkInput : Bytes → Bytes → Answer
 checkInput page rest = ask (eqb (length rest) 0) (Refused BadLayout) (checkPage page)
 

@@ -18,26 +18,27 @@ use slots::HEAD;
 use slots::SLOT;
 use slots::TUPLE;
 
-// The most bytes of a number: a u32 has ten digits. Of an offset: a minus, and the digits of 2147483648 at most.
+// The most bytes of a number: a u32 has ten digits. Of an offset: its minus, and the digits of a number.
 const NUMBER_TEXT: usize = 10;
 
 const OFFSET_TEXT: usize = 1 + NUMBER_TEXT;
 
-// Of a tuple: three numbers with a `.` after each, and the offset.
+// Of a tuple: three numbers with a `.` after each, and the offset; 44.
 const TUPLE_TEXT: usize = 3 * (NUMBER_TEXT + 1) + OFFSET_TEXT;
 
-// Of a line: two numbers with a space after each, and LIMIT tuples, each with a `/` or, the last, the newline after it.
+// Of a line: two numbers with a space after each, and LIMIT tuples, each with a `/` or, the last, the newline after it; 382.
 const LINE: usize = 2 * (NUMBER_TEXT + 1) + LIMIT * (TUPLE_TEXT + 1);
 
 const HEADER_TEXT: usize = 16;
 
-// Of a listing: the header and a line for each slot. A refusal takes less.
+// Of a listing: the header and a line for each slot; 97,808. A refusal takes less.
 pub const TEXT: usize = HEADER_TEXT + SLOTS * LINE;
 
 // "It writes the fixed line `line depth name`"
 pub const HEADER: [u8; HEADER_TEXT] = *b"line depth name\n";
 
-// Each function here writes a text into out from p on, and answers where it ends.
+// Each function `put_..` writes a text into out from p on and answers where it ends. It requires room for the most bytes
+// that the text takes, and promises the whole output.
 
 fn put_byte(out: &mut [u8], p: usize, b: u8) -> usize
     requires { ⌜ p + 1 ≤ length (now out) ⌝ }
@@ -53,7 +54,7 @@ fn put_decimal(out: &mut [u8], p: usize, n: u32) -> usize
     ensures { λ r. ⌜ (r ≡ p + length (decimal n)) × (now (out .exit) ≡ put (now (out .entry)) p (decimal n)) ⌝ }
     ensures { λ r. ⌜ r ≤ p + numberRoom ⌝ }
 {
-    let last = (48 + n % 10) as u8;
+    let last = b'0' + (n % 10) as u8;
     if n < 10 {
         return put_byte(out, p, last);
     }
@@ -134,6 +135,7 @@ fn put_line(out: &mut [u8], p: usize, slot: &[u8]) -> usize
     put_byte(out, end, b'\n')
 }
 
+// The bytes of s.
 fn put_bytes(out: &mut [u8], p: usize, s: &[u8]) -> usize
     requires { ⌜ p + length (now s) ≤ length (now out) ⌝ }
     ensures { λ r. ⌜ (r ≡ p + length (now (s .entry))) × (now (out .exit) ≡ put (now (out .entry)) p (now (s .entry))) ⌝ }
@@ -142,6 +144,7 @@ fn put_bytes(out: &mut [u8], p: usize, s: &[u8]) -> usize
     p + s.len()
 }
 
+// "the fixed line `line depth name`"
 fn put_header(out: &mut [u8], p: usize) -> usize
     requires { ⌜ p + length header ≤ length (now out) ⌝ }
     ensures { λ r. ⌜ (r ≡ p + length header) × (now (out .exit) ≡ put (now (out .entry)) p header) ⌝ }
@@ -177,7 +180,7 @@ fn put_refused(out: &mut [u8], p: usize, n: u32) -> usize
     put_number(out, q, n, b'\n')
 }
 
-// "input above 26,624 bytes is `refused 1`": rest is what was read after a whole page.
+// "input above 26,624 bytes is `refused 1`"
 fn check_input(page: &[u8], rest: &[u8]) -> Answer
     ensures { λ r. ⌜ r ≡ checkInput (now (page .entry)) (now (rest .entry)) ⌝ }
 {
@@ -188,7 +191,8 @@ fn check_input(page: &[u8], rest: &[u8]) -> Answer
     }
 }
 
-// Writes the listing of a page, or the line that refuses it, and answers how many bytes it takes.
+// What the listing program writes, and how many bytes it takes: page is what was read into a buffer for a whole page, rest what
+// was read after that buffer was full.
 pub fn list(page: &[u8], rest: &[u8], out: &mut [u8; TEXT]) -> usize
     ensures { λ r. ⌜ (r ≡ length (listing (now (page .entry)) (now (rest .entry)))) × (now (out .exit) ≡ put (now (out .entry)) 0 (listing (now (page .entry)) (now (rest .entry)))) ⌝ }
     ensures { λ r. ⌜ r ≤ bookRoom ⌝ }

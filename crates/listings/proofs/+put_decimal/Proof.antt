@@ -1,3 +1,4 @@
+-- The proof of the cycle of calls {put_decimal}: the measure is n, which n / 10 falls below. Assumes nothing.
 use mathlib.Core.Path.{_∙_, sym}
 use mathlib.Core.List.{[], _∷_}
 use native.Mathlib.Omega.{arith}
@@ -26,14 +27,6 @@ abbrev put-decimal-below : ℕ → In 1 put-decimal-kinds.ps
 put-decimal-below t =
     and 1 put-decimal-kinds.ps (falls 1 put-decimal-kinds.ps _<_ μ-put-decimal t) put-decimal.Pre
 
-put-decimal-add-last : (t : ℕ) → put-decimal-lts.Need-add-last (
-  put-byte-reads.Asked,
-  put-byte-reads.Learnt,
-  put-decimal-below t,
-  put-decimal.Post,
-) (put-decimal-at t) put-decimal.Post
-put-decimal-add-last t c = omega arith
-
 put-decimal-cast-last : (t : ℕ) → put-decimal-lts.Need-cast-last (
   put-byte-reads.Asked,
   put-byte-reads.Learnt,
@@ -41,6 +34,14 @@ put-decimal-cast-last : (t : ℕ) → put-decimal-lts.Need-cast-last (
   put-decimal.Post,
 ) (put-decimal-at t) put-decimal.Post
 put-decimal-cast-last t c = omega arith
+
+put-decimal-add-last : (t : ℕ) → put-decimal-lts.Need-add-last (
+  put-byte-reads.Asked,
+  put-byte-reads.Learnt,
+  put-decimal-below t,
+  put-decimal.Post,
+) (put-decimal-at t) put-decimal.Post
+put-decimal-add-last t c = omega arith
 
 put-decimal-put-byte-requires : (t : ℕ) → put-decimal-lts.Need-put-byte-requires (
   put-byte-reads.Asked,
@@ -118,8 +119,8 @@ pub +put-decimal-spec : {M : Type 1} → statement M
 )
     (put-decimal-at t)
     put-decimal.Post
-    (put-decimal-add-last t)
     (put-decimal-cast-last t)
+    (put-decimal-add-last t)
     (put-decimal-put-byte-requires t)
     (put-decimal-same-length t)
     (put-decimal-returns t)

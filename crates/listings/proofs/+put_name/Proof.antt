@@ -1,3 +1,4 @@
+-- The proof of the cycle of calls {put_name}: the measure is the number of tuples that are left. Assumes nothing.
 use mathlib.Core.Path.{_∙_, ap}
 use mathlib.Core.List.{_++_}
 use native.Mathlib.Omega.{arith}
