@@ -1,7 +1,7 @@
 -- The place of a name in a rising row of names. Assumes nothing.
 use mathlib.Core.Path.{_≡_, refl, _∙_, ap}
 use mathlib.Core.List.{List, [], _∷_}
-use mathlib.Core.Bool.{Bool, true, false, _||_}
+use mathlib.Core.Bool.{or-true, true, false}
 use Prim.Native.Nat.{ℕ, zero, suc, _+_, _<_, _≤_}
 use native.Mathlib.Decide.{decLt}
 use native.Mathlib.Nat.{not-suc-le-zero, le-of-suc-le-suc}
@@ -74,11 +74,7 @@ below-is a (x ∷ l) (suc k) h f g =
 has-yes : (a : Row) (l : List Row) (k : ℕ) → k < length l → getD l k [] ≡ a → has a l ≡ true
 has-yes a [] k h e = absurd (not-suc-le-zero h)
 has-yes a (x ∷ l) zero h e = let q = ap isSame (ap (λ (y : Row). compareRows y a) e ∙ row-same a) in rw q
-has-yes a (x ∷ l) (suc k) h e = rw (has-yes a l k (le-of-suc-le-suc h) e) (or-yes (isSame (compareRows x a)))
-  where
-    or-yes : (b : Bool) → b || true ≡ true
-    or-yes true = refl
-    or-yes false = refl
+has-yes a (x ∷ l) (suc k) h e = rw (has-yes a l k (le-of-suc-le-suc h) e) (or-true (isSame (compareRows x a)))
 
 has-no : (a : Row) (l : List Row) → ((i : ℕ) → i < length l → ¬ (getD l i [] ≡ a)) → has a l ≡ false
 has-no a [] f = refl

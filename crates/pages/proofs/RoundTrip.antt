@@ -14,7 +14,7 @@ use Rattle.names.proofs.Laws.{and-0, and-1}
 use Rattle.slots.specs.Bytes.{Bytes, every}
 use Rattle.slots.specs.Slots.{Slot, slotSize, slotOf, keepsSlot, slotBytes, isSlot}
 use Rattle.slots.proofs.Numbers.{Octets}
-use Rattle.slots.proofs.RoundTrip.{kept, bytes-back, slot-back, encoded-length, encoded-keeps}
+use Rattle.slots.proofs.RoundTrip.{kept, bytes-back, decoded-slot, slot-back, encoded-length, encoded-keeps}
 use Rattle.pages.specs.Pages.{maxSlots, parts, partsOf, slotsOf, pieces, keepsLayout}
 
 -- ── parts of bytes ──
@@ -30,11 +30,11 @@ octets-drop n s k i = rw (getD-drop n s i 0) (k (n + i))
 
 -- ── from bytes and back ──
 
-flat : (x : Bytes) (l : List Bytes) → flatten (x ∷ l) ≡ x ++ flatten l
+pub flat : (x : Bytes) (l : List Bytes) → flatten (x ∷ l) ≡ x ++ flatten l
 unfolding flatten
 flat x l = refl
 
-flat-none : flatten {A = ℕ} [] ≡ []
+pub flat-none : flatten {A = ℕ} [] ≡ []
 unfolding flatten
 flat-none = refl
 
@@ -42,17 +42,32 @@ empty : (s : Bytes) → length s ≡ 0 → [] ≡ s
 empty [] e = refl
 empty (x ∷ s) e = absurd (let z : suc (length s) ≡ 0 = e in omega arith)
 
-parts-back : (n : ℕ) (s : Bytes) → Octets s → length s ≡ slotSize * n → every keepsSlot (parts n s) ≡ true → flatten (map slotBytes (map slotOf (parts n s))) ≡ s
-parts-back zero s k e v = flat-none ∙ empty s (e ∙ omega arith)
-parts-back (suc n) s k e v =
+-- the parts, one after the other, are the whole
+pub flat-all : (n : ℕ) (s : Bytes) → length s ≡ slotSize * n → flatten (parts n s) ≡ s
+flat-all zero s e = flat-none ∙ empty s (e ∙ omega arith)
+flat-all (suc n) s e =
+    flat (take slotSize s) (parts n (drop slotSize s))
+    ∙ ap (λ (l : Bytes). take slotSize s ++ l) (flat-all n (drop slotSize s) (simp length-drop (omega arith)))
+    ∙ take-append-drop slotSize s
+
+-- a part that keeps the layout is the bytes of what it says
+parts-again : (n : ℕ) (s : Bytes) → Octets s → every keepsSlot (parts n s) ≡ true → map slotBytes (map slotOf (parts n s)) ≡ parts n s
+parts-again zero s k v = refl
+parts-again (suc n) s k v =
     let a = take slotSize s in
     let b = drop slotSize s in
-    let l : length b ≡ slotSize * n = simp length-drop (omega arith) in
     let v₀ = and-0 (keepsSlot a) (every keepsSlot (parts n b)) v in
     let v₁ = and-1 (keepsSlot a) (every keepsSlot (parts n b)) v in
-    flat (slotBytes (slotOf a)) (map slotBytes (map slotOf (parts n b)))
-    ∙ (λ i. bytes-back a (octets-take slotSize s k) (kept a v₀) i ++ parts-back n b (octets-drop slotSize s k) l v₁ i)
-    ∙ take-append-drop slotSize s
+    λ i. bytes-back a (octets-take slotSize s k) (kept a v₀) i ∷ parts-again n b (octets-drop slotSize s k) v₁ i
+
+parts-good : (n : ℕ) (s : Bytes) → Octets s → every keepsSlot (parts n s) ≡ true → every isSlot (map slotOf (parts n s)) ≡ true
+parts-good zero s k v = refl
+parts-good (suc n) s k v =
+    let a = take slotSize s in
+    let b = drop slotSize s in
+    let v₀ = and-0 (keepsSlot a) (every keepsSlot (parts n b)) v in
+    let v₁ = and-1 (keepsSlot a) (every keepsSlot (parts n b)) v in
+    λ i. decoded-slot a (octets-take slotSize s k) (kept a v₀) i && parts-good n b (octets-drop slotSize s k) v₁ i
 
 -- what the check of a page's layout has found
 pub record Laid (s : Bytes) : Type 0 where
@@ -69,8 +84,15 @@ laid s e =
     let z = eqb-true (length s % slotSize) 0 (and-0 a b e₀) in
     record { whole = omega arith; few = leb-true (length s / slotSize) maxSlots (and-1 a b e₀); good = and-1 (a && b) (every keepsSlot (partsOf s)) e }
 
-pub page-back : (s : Bytes) → Octets s → keepsLayout s ≡ true → flatten (pieces (slotsOf s)) ≡ s
-page-back s k e = let v = laid s e in parts-back (length s / slotSize) s k (v .whole) (v .good)
+module _ (s : Bytes) (k : Octets s) (e : keepsLayout s ≡ true) where
+  pub pieces-are : pieces (slotsOf s) ≡ partsOf s
+  pieces-are = parts-again (length s / slotSize) s k (laid s e .good)
+
+  pub page-slots : every isSlot (slotsOf s) ≡ true
+  page-slots = parts-good (length s / slotSize) s k (laid s e .good)
+
+  pub page-back : flatten (pieces (slotsOf s)) ≡ s
+  page-back = ap flatten pieces-are ∙ flat-all (length s / slotSize) s (laid s e .whole)
 
 -- ── from slots and back ──
 

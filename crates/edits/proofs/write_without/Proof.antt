@@ -1,0 +1,65 @@
+-- `edits::write_without` meets its contract. Assumes nothing.
+use Rattle.slots.specs.Bytes.{Bytes, put}
+use lib.ListN.{length-drop, length, take, drop, length-take}
+use lib.Seq.{take-all, length-take-le}
+use mathlib.Core.Path.{_≡_, _∙_, sym, ap}
+use Prim.Native.Nat.{_+_, _*_, _-_}
+use native.Mathlib.Omega.{arith}
+use denote.Ref.{now}
+use Rattle.slots.specs.Slots.{slotSize}
+use Rattle.slots.proofs.Put.{put-more}
+use borrow.Author.Needs.{needs}
+use Rattle.edits.proofs.write_without.Statement.{statement}
+use Rattle.edits.proofs.write_without.Tie as tie
+
+mul-p : tie.Need-mul-p
+mul-p c = search needs
+
+add-q : tie.Need-add-q
+add-q c = search needs
+
+slice-aggregate-copy : tie.Need-slice-aggregate-copy
+slice-aggregate-copy c = sym (length-take-le (slotSize * c .before .before .before .before .args .k) (now (c .before .before .before .before .args .page)) (omega arith))
+
+copy-requires : tie.Need-copy-requires
+copy-requires c κs = omega (arith, length-take (slotSize * c .before .before .before .before .args .k) (now (c .before .before .before .before .args .page)))
+
+sub-copy : tie.Need-sub-copy
+sub-copy c = search needs
+
+part-copy-start : tie.Need-part-copy-start
+part-copy-start c = search needs
+
+part-copy-end : tie.Need-part-copy-end
+part-copy-end c = search needs
+
+copy-requires-2 : tie.Need-copy-requires-2
+copy-requires-2 c κs = search needs
+
+same-length : tie.Need-same-length
+same-length c = search needs
+
+returns : tie.Need-returns
+returns c =
+    let o = now (c .before .before .before .before .before .before .before .before .before .before .before .before .args .out) in
+    let s = now (c .before .before .before .before .before .before .before .before .before .before .before .before .args .page) in
+    let p = slotSize * c .before .before .before .before .before .before .before .before .before .before .before .before .args .k in
+    let l = length-take-le p s (omega arith) in
+    let q : p ≡ 0 + length (take p s) = omega (arith, l) in
+    let t : take (length s - (p + slotSize)) (drop (p + slotSize) s) ≡ drop (p + slotSize) s = take-all (length s - (p + slotSize)) (drop (p + slotSize) s) (omega (arith, length-drop (p + slotSize) s)) in
+    put-more o 0 (omega arith) (take p s) (drop (p + slotSize) s) (c .before .before .before .before .before .before .before .copy .ensures) q (c .before .before .copy2 .ensures ∙ ap (λ (w : Bytes). put (c .before .before .before .before .before .before .before .copy .last .0) p w) t)
+
+pub write-without-spec : {M : Type 1} → statement M
+write-without-spec =
+    tie.close
+    (tie.spec
+    mul-p
+    add-q
+    slice-aggregate-copy
+    copy-requires
+    sub-copy
+    part-copy-start
+    part-copy-end
+    copy-requires-2
+    same-length
+    returns)

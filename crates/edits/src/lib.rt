@@ -1,0 +1,122 @@
+// Insert and remove. Document 01, "Taking it back", last paragraph, and "What comes back"; the definitions are in specs/.
+ghost use mathlib.Core.Path.{_≡_};
+ghost use mathlib.Core.List.{_++_};
+ghost use Prim.Native.Nat.{_+_, _*_, _≤_, _<_};
+ghost use lib.ListN.{length, take, drop};
+ghost use Rattle.slots.specs.Bytes.{put};
+ghost use Rattle.slots.specs.Slots.{slotSize, nameOf};
+ghost use Rattle.pages.specs.Pages.{namesOf};
+ghost use Rattle.pages.specs.Places.{placeOf};
+ghost use Rattle.pages.specs.Answers.{leaves};
+ghost use Rattle.edits.specs.Edits.{askEdit, insertion, removal};
+use pages::Answer;
+use pages::PAGE;
+use pages::Place;
+use pages::Refusal;
+use slots::SLOT;
+
+// The page with the slot before slot k, from the start of out. What is copied is copied once.
+fn write_with(page: &[u8], slot: &[u8], k: usize, out: &mut [u8])
+    requires { ⌜ (slotSize * k ≤ length (now page)) × (length (now page) + length (now slot) ≤ length (now out)) ⌝ }
+    ensures { λ _. ⌜ now (out .exit) ≡ put (now (out .entry)) 0 (take (slotSize * k) (now (page .entry)) ++ now (slot .entry) ++ drop (slotSize * k) (now (page .entry))) ⌝ }
+{
+    let p = SLOT * k;
+    pages::copy(out, 0, &page[..p]);
+    pages::copy(out, p, slot);
+    pages::copy(out, p + slot.len(), &page[p..]);
+}
+
+// The page without slot k, from the start of out.
+fn write_without(page: &[u8], k: usize, out: &mut [u8])
+    requires { ⌜ (slotSize * k + slotSize ≤ length (now page)) × (length (now page) ≤ length (now out) + slotSize) ⌝ }
+    ensures { λ _. ⌜ now (out .exit) ≡ put (now (out .entry)) 0 (take (slotSize * k) (now (page .entry)) ++ drop (slotSize * k + slotSize) (now (page .entry))) ⌝ }
+{
+    let p = SLOT * k;
+    let q = p + SLOT;
+    pages::copy(out, 0, &page[..p]);
+    pages::copy(out, p, &page[q..]);
+}
+
+// What stands before an edit: a refusal, or the place of the slot's name.
+enum Checked {
+    Refused(Refusal),
+    Found(Place),
+}
+
+// 1 (page), 1 (slot), 2; else the place.
+fn check_edit(page: &[u8], slot: &[u8]) -> Checked
+    ensures { λ r. ⌜ r ≡ askEdit (now (page .entry)) (now (slot .entry)) Checked.Refused (Checked.Found (placeOf (nameOf (now (slot .entry))) (namesOf (now (page .entry))))) ⌝ }
+{
+    if pages::page_ok(page) {
+        if pages::slot_ok(slot) {
+            if pages::page_rises(page) {
+                Checked::Found(pages::find(page, slot))
+            } else {
+                Checked::Refused(Refusal::NotRising)
+            }
+        } else {
+            Checked::Refused(Refusal::BadLayout)
+        }
+    } else {
+        Checked::Refused(Refusal::BadLayout)
+    }
+}
+
+// 11, 8; else the page with the slot before slot k, its rising place.
+fn insert_at(page: &[u8], slot: &[u8], k: usize, out: &mut [u8]) -> Answer
+    requires { ⌜ askEdit (now page) (now slot) Checked.Refused (Checked.Found (placeOf (nameOf (now slot)) (namesOf (now page)))) ≡ Checked.Found (Place.Gap k) ⌝ }
+    ensures { λ r. ⌜ r ≡ insertion (now (page .entry)) (now (slot .entry)) (length (now (out .entry))) .answer ⌝ }
+    ensures { λ r. ⌜ now (out .exit) ≡ leaves (insertion (now (page .entry)) (now (slot .entry)) (length (now (out .entry)))) (now (out .entry)) ⌝ }
+{
+    if PAGE <= page.len() {
+        return Answer::Refused(Refusal::Full);
+    }
+    if out.len() < page.len() + SLOT {
+        return Answer::Refused(Refusal::Short);
+    }
+    write_with(page, slot, k, out);
+    Answer::Accepted(page.len() / SLOT + 1)
+}
+
+// 8; else the page without slot k, which has the name.
+fn remove_at(page: &[u8], slot: &[u8], k: usize, out: &mut [u8]) -> Answer
+    requires { ⌜ askEdit (now page) (now slot) Checked.Refused (Checked.Found (placeOf (nameOf (now slot)) (namesOf (now page)))) ≡ Checked.Found (Place.Here k) ⌝ }
+    ensures { λ r. ⌜ r ≡ removal (now (page .entry)) (now (slot .entry)) (length (now (out .entry))) .answer ⌝ }
+    ensures { λ r. ⌜ now (out .exit) ≡ leaves (removal (now (page .entry)) (now (slot .entry)) (length (now (out .entry)))) (now (out .entry)) ⌝ }
+{
+    if out.len() < page.len() - SLOT {
+        return Answer::Refused(Refusal::Short);
+    }
+    write_without(page, k, out);
+    Answer::Accepted(page.len() / SLOT - 1)
+}
+
+// 1 (page), 1 (slot), 2, 9, 11, 8; else the page with the slot at its rising place.
+pub fn insert(page: &[u8], slot: &[u8], out: &mut [u8]) -> Answer
+    ensures { λ r. ⌜ r ≡ insertion (now (page .entry)) (now (slot .entry)) (length (now (out .entry))) .answer ⌝ }
+    ensures { λ r. ⌜ now (out .exit) ≡ leaves (insertion (now (page .entry)) (now (slot .entry)) (length (now (out .entry)))) (now (out .entry)) ⌝ }
+{
+    let checked = check_edit(page, slot);
+    match checked {
+        Checked::Refused(r) => Answer::Refused(r),
+        Checked::Found(place) => match place {
+            Place::Here(_) => Answer::Refused(Refusal::Present),
+            Place::Gap(k) => insert_at(page, slot, k, out),
+        },
+    }
+}
+
+// 1, 1, 2, 10, 8; else the page without the slot of that name.
+pub fn remove(page: &[u8], slot: &[u8], out: &mut [u8]) -> Answer
+    ensures { λ r. ⌜ r ≡ removal (now (page .entry)) (now (slot .entry)) (length (now (out .entry))) .answer ⌝ }
+    ensures { λ r. ⌜ now (out .exit) ≡ leaves (removal (now (page .entry)) (now (slot .entry)) (length (now (out .entry)))) (now (out .entry)) ⌝ }
+{
+    let checked = check_edit(page, slot);
+    match checked {
+        Checked::Refused(r) => Answer::Refused(r),
+        Checked::Found(place) => match place {
+            Place::Here(k) => remove_at(page, slot, k, out),
+            Place::Gap(_) => Answer::Refused(Refusal::Absent),
+        },
+    }
+}
