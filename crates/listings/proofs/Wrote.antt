@@ -3,9 +3,10 @@ use mathlib.Core.Path.{_≡_, _∙_, sym, ap}
 use mathlib.Core.List.{_++_, append-assoc}
 use Prim.Native.Nat.{ℕ, _+_, _≤_}
 use native.Mathlib.Omega.{arith}
-use lib.ListN.{length, length-append}
+use lib.ListN.{length, take, length-append}
+use lib.Seq.{length-take-le}
 use Rattle.slots.specs.Bytes.{Bytes, put}
-use Rattle.slots.proofs.Put.{put-more}
+use Rattle.slots.proofs.Put.{put-more, put-length}
 
 -- what a call promises that writes the text w into o from p on: it answers r and leaves e
 abbrev pub Wrote : Bytes → ℕ → Bytes → ℕ → Bytes → Type 0
@@ -21,3 +22,10 @@ wrote-as o p q a = (a .0 ∙ ap (λ (l : Bytes). p + length l) q, a .1 ∙ ap (p
 -- a text of two parts
 pub wrote-two : (o : Bytes) (p : ℕ) → p ≤ length o → (w s t : Bytes) {q r : ℕ} {d e : Bytes} → Wrote o p w q d → Wrote d q (s ++ t) r e → Wrote o p (w ++ s ++ t) r e
 wrote-two o p h w s t a b = wrote-as o p (sym (append-assoc w s t)) (wrote-more o p h w (s ++ t) a b)
+
+-- a text from the start stands within what had room for it
+pub wrote-within : (o w : Bytes) {r : ℕ} {e : Bytes} → Wrote o 0 w r e → r ≤ length o → (r ≤ length e) × (r ≡ length (take r e))
+wrote-within o w {r} {e} a h =
+    let l : length e ≡ length o = ap length (a .1) ∙ put-length o 0 (omega arith) w (omega (arith, a .0)) in
+    let f : r ≤ length e = omega arith in
+    (f, sym (length-take-le r e f))

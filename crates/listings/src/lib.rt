@@ -3,12 +3,12 @@ ghost use mathlib.Core.Path.{_≡_};
 ghost use mathlib.Core.Bool.{true};
 ghost use mathlib.Core.List.{[], _∷_, _++_};
 ghost use Prim.Native.Nat.{_+_, _*_, _/_, _≤_};
-ghost use lib.ListN.{length};
+ghost use lib.ListN.{length, take};
 ghost use lib.IntN.{natAbs};
 ghost use Rattle.slots.specs.Bytes.{put, tuplesAt, tupleSize};
 ghost use Rattle.slots.specs.Slots.{slotSize, depthOf, slotOf};
 ghost use Rattle.pages.specs.Pages.{slotsOf, keepsLayout};
-ghost use Rattle.listings.specs.Listing.{decimal, decimalℤ, tupleText, nameText, lineText, header, linesText, refusedText, checkInput, listing, numberRoom, offsetRoom, tupleRoom, lineRoom, bookRoom};
+ghost use Rattle.listings.specs.Listing.{decimal, decimalℤ, tupleText, nameText, lineText, header, linesText, refusedText, checkInput, listing, numberRoom, offsetRoom, tupleRoom, lineRoom};
 use names::LIMIT;
 use names::Tuple;
 use pages::Answer;
@@ -195,7 +195,7 @@ fn check_input(page: &[u8], rest: &[u8]) -> Answer
 // was read after that buffer was full.
 pub fn list(page: &[u8], rest: &[u8], out: &mut [u8; TEXT]) -> usize
     ensures { λ r. ⌜ (r ≡ length (listing (now (page .entry)) (now (rest .entry)))) × (now (out .exit) ≡ put (now (out .entry)) 0 (listing (now (page .entry)) (now (rest .entry)))) ⌝ }
-    ensures { λ r. ⌜ r ≤ bookRoom ⌝ }
+    ensures { λ r. ⌜ (r ≤ length (now (out .exit))) × (r ≡ length (take r (now (out .exit)))) ⌝ }
 {
     let answer = check_input(page, rest);
     match answer {

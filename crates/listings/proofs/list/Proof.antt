@@ -5,9 +5,9 @@ use native.Mathlib.Omega.{arith}
 use denote.Ref.{now}
 use Rattle.pages.specs.Pages.{slotsOf}
 use Rattle.pages.proofs.RoundTrip.{laid}
-use Rattle.listings.specs.Listing.{header, linesText, refusedText}
+use Rattle.listings.specs.Listing.{header, linesText, refusedText, listing}
 use Rattle.listings.proofs.Books.{accepted-layout, accepted-text, refused-text}
-use Rattle.listings.proofs.Wrote.{wrote-more, wrote-as}
+use Rattle.listings.proofs.Wrote.{wrote-more, wrote-as, wrote-within}
 use borrow.Author.Needs.{needs}
 use Rattle.listings.proofs.list.Statement.{statement}
 use Rattle.listings.proofs.list.Tie as tie
@@ -44,7 +44,7 @@ returns c =
     let k = accepted-layout page rest (c .before .before .before .before .before .before .check-input .ensures) _ (c .before .before .before .before .enum-told .given .1) in
     let w = wrote-more o 0 (omega arith) header (linesText (slotsOf page)) (c .before .before .put-header .ensures) (c .put-lines .ensures .0) in
     let t = wrote-as o 0 (accepted-text page rest (c .before .before .before .before .before .before .check-input .ensures) _ (c .before .before .before .before .enum-told .given .1)) w in
-    ((t .0 ∙ zero-add _, t .1), omega (arith, laid page k .few))
+    ((t .0 ∙ zero-add _, t .1), wrote-within o (listing page rest) t (omega (arith, laid page k .few)))
 
 returns-2 : tie.Need-returns-2
 returns-2 c =
@@ -53,7 +53,7 @@ returns-2 c =
     let o = now (c .before .before .before .before .before .before .before .before .args .out) in
     let e = ap refusedText (c .before .number .ensures) ∙ refused-text page rest (c .before .before .before .before .before .check-input .ensures) _ (c .before .before .before .enum-told2 .given .1) in
     let t = wrote-as o 0 e (c .put-refused .ensures .0) in
-    ((t .0 ∙ zero-add _, t .1), omega arith)
+    ((t .0 ∙ zero-add _, t .1), wrote-within o (listing page rest) t (omega arith))
 
 pub list-spec : {M : Type 1} → statement M
 list-spec =
