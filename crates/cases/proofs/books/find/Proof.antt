@@ -1,8 +1,8 @@
 -- `cases::find` meets its contract. Assumes nothing.
 use mathlib.Core.Path.{_∙_, sym}
 use borrow.Author.Needs.{needs}
-use Rattle.cases.proofs.find.Statement.{statement}
-use Rattle.cases.proofs.find.Tie as tie
+use Rattle.cases.proofs.books.find.Statement.{statement}
+use Rattle.cases.proofs.books.find.Tie as tie
 
 page-rises-requires : tie.Need-page-rises-requires
 page-rises-requires c κs = search needs
