@@ -57,7 +57,7 @@ fn log_of_two(label: &[u8], a: Name, b: Name, line: u32) {
 }
 
 // n slots with rising names, as many as the page has room for.
-pub fn fill(page: &mut [u8], n: usize)
+pub(crate) fn fill(page: &mut [u8], n: usize)
     requires { ⌜ (slotSize * n ≤ length (now page)) × (n ≤ 257) ⌝ }
 {
     let mut k: usize = 0;
@@ -120,7 +120,7 @@ fn find(label: &[u8], page: &[u8], slot: &[u8; SLOT]) {
     }
 }
 
-pub fn slot_cases() {
+pub(crate) fn slot_cases() {
     title(b"slots: 0 accepted, 1 broken layout");
     named(b"r0", r0());
     named(b"r1", r1());
@@ -139,7 +139,7 @@ pub fn slot_cases() {
     damaged(b"last byte of the filler", 103, 1);
 }
 
-pub fn name_cases() {
+pub(crate) fn name_cases() {
     let t = tuple(9, 2, 0, 0);
     title(b"names: 0 accepted, 1 broken layout");
     named(b"m first", two(low_marker(), t));
@@ -161,7 +161,7 @@ pub fn name_cases() {
     named(b"node 65535", one(tuple(9, 65535, 4294967295, 0)));
 }
 
-pub fn page_cases() {
+pub(crate) fn page_cases() {
     title(b"pages of two: 0 accepted, 2 not rising");
     pair(b"r0, r1", r0(), r1());
     pair(b"r1, r2", r1(), r2());
@@ -185,7 +185,7 @@ pub fn page_cases() {
     log_of_two(b"not rising", r1(), r0(), 0);
 }
 
-pub fn place_cases() {
+pub(crate) fn place_cases() {
     title(b"places among r0, r1, r2: 0 and the slot, 1 and the gap");
     placed(b"r0", r0());
     placed(b"r1", r1());

@@ -107,7 +107,7 @@ fn refusals(insert: bool) {
     );
 }
 
-pub fn insert_cases() {
+pub(crate) fn insert_cases() {
     title(b"insert: 0 accepted, 1 broken layout, 2 not rising, 8 short output, 9 present, 11 full");
     shown(b"below r0", true, one(tuple(9, 1, 0, 0)));
     shown(
@@ -132,7 +132,7 @@ pub fn insert_cases() {
     sized(b"a page of 256, no output", true, 256, 256, 0);
 }
 
-pub fn remove_cases() {
+pub(crate) fn remove_cases() {
     title(b"remove: 0 accepted, 1 broken layout, 2 not rising, 8 short output, 10 absent");
     shown(b"r0", false, r0());
     shown(b"r1", false, r1());

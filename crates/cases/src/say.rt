@@ -6,7 +6,7 @@ use names::Name;
 use names::Tuple;
 use pages::Answer;
 
-pub fn tuple(position: u16, node: u16, sequence: u32, offset: i32) -> Tuple {
+pub(crate) fn tuple(position: u16, node: u16, sequence: u32, offset: i32) -> Tuple {
     Tuple {
         position,
         node,
@@ -16,53 +16,53 @@ pub fn tuple(position: u16, node: u16, sequence: u32, offset: i32) -> Tuple {
 }
 
 // The name of the first depth of three tuples.
-pub fn name(depth: usize, a: Tuple, b: Tuple, c: Tuple) -> Name {
+pub(crate) fn name(depth: usize, a: Tuple, b: Tuple, c: Tuple) -> Name {
     let mut tuples = [a; LIMIT];
     tuples[1] = b;
     tuples[2] = c;
     Name { depth, tuples }
 }
 
-pub fn one(a: Tuple) -> Name {
+pub(crate) fn one(a: Tuple) -> Name {
     name(1, a, a, a)
 }
 
-pub fn two(a: Tuple, b: Tuple) -> Name {
+pub(crate) fn two(a: Tuple, b: Tuple) -> Name {
     name(2, a, b, b)
 }
 
-pub fn three(a: Tuple, b: Tuple, c: Tuple) -> Name {
+pub(crate) fn three(a: Tuple, b: Tuple, c: Tuple) -> Name {
     name(3, a, b, c)
 }
 
 // 01's log L.
-pub fn r0() -> Name {
+pub(crate) fn r0() -> Name {
     one(tuple(9, 2, 0, 0))
 }
 
-pub fn r1() -> Name {
+pub(crate) fn r1() -> Name {
     two(tuple(9, 2, 0, 0), tuple(6, 1, 0, 0))
 }
 
-pub fn r2() -> Name {
+pub(crate) fn r2() -> Name {
     one(tuple(9, 2, 0, 1))
 }
 
 // The two end markers.
-pub fn low_marker() -> Tuple {
+pub(crate) fn low_marker() -> Tuple {
     tuple(0, 0, 0, 0)
 }
 
-pub fn high_marker() -> Tuple {
+pub(crate) fn high_marker() -> Tuple {
     tuple(65535, 65535, 4294967295, 2147483647)
 }
 
-pub fn title(text: &[u8]) {
+pub(crate) fn title(text: &[u8]) {
     io::write_all(STDOUT_FILENO, text);
     io::write_all(STDOUT_FILENO, b"\n");
 }
 
-pub fn numbers(label: &[u8], a: u64, b: u64) {
+pub(crate) fn numbers(label: &[u8], a: u64, b: u64) {
     io::write_all(STDOUT_FILENO, b"  ");
     io::write_all(STDOUT_FILENO, label);
     io::write_all(STDOUT_FILENO, b": ");
@@ -72,12 +72,12 @@ pub fn numbers(label: &[u8], a: u64, b: u64) {
     io::write_all(STDOUT_FILENO, b"\n");
 }
 
-pub fn say(label: &[u8], a: Answer) {
+pub(crate) fn say(label: &[u8], a: Answer) {
     numbers(label, pages::number(a) as u64, pages::count(a) as u64);
 }
 
 // The book that stands in a page, a line for each slot.
-pub fn show(page: &[u8]) {
+pub(crate) fn show(page: &[u8]) {
     let mut text = [0u8; TEXT];
     let end = listings::list(page, b"", &mut text);
     io::write_all(STDOUT_FILENO, &text[..end]);
