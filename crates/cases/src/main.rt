@@ -1,6 +1,7 @@
 // Cases of document 01 that are run and compared: each line has a label and what came back, the answer's number and its count.
 mod books;
 mod inserts;
+mod new_names;
 mod say;
 
 fn main() {
@@ -10,4 +11,5 @@ fn main() {
     books::place_cases();
     inserts::insert_cases();
     inserts::remove_cases();
+    new_names::new_name_cases();
 }

@@ -1,4 +1,6 @@
 pub mod Laws
 pub mod Signed
 pub mod Compared
+pub mod Joins
+pub mod Validity
 pub mod Settled

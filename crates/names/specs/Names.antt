@@ -1,8 +1,8 @@
 -- Tuples and names: document 01, "Names".
-use Prim.Native.Nat.{ℕ}
-use mathlib.Core.List.{[], _∷_}
-use mathlib.Core.Bool.{Bool, false, _&&_, _||_}
-use lib.ListN.{length, take}
+use Prim.Native.Nat.{ℕ, _-_}
+use mathlib.Core.List.{[], _∷_, _++_}
+use mathlib.Core.Bool.{Bool, false, cond, _&&_, _||_}
+use lib.ListN.{length, take, replicate}
 use lib.Dec.{leb}
 use lib.IntN.{ℤ, pos, negsuc, predℤ}
 use lib.Signed.{leZ}
@@ -58,6 +58,15 @@ endsWell (t ∷ u ∷ a) = (ordinary t || marker t) && endsWell (u ∷ a)
 unfoldable pub isName : Row → Bool
 isName [] = false
 isName (t ∷ a) = ordinary t && endsWell (t ∷ a)
+
+-- a row of at most `limit` tuples as the code passes it, with zeros after its tuples, so that there is one value for a row;
+-- where there is no name it is that of the row of no tuples
+abbrev pub valueOf : Row → Name
+valueOf a = record { depth = length a; tuples = a ++ replicate (limit - length a) m }
+
+-- "a·b means the tuples of a, then those of b": where they pass the limit there is no name
+abbrev pub joined : Row → Row → Row
+joined a b = cond (fits (a ++ b)) (a ++ b) []
 
 -- "'One below' a name is that name with its last offset less 1; offset 0 gives −1."
 abbrev pub lowered : Tuple → Tuple

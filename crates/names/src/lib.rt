@@ -1,8 +1,9 @@
 // Names of lines and their order. Document 01, "Names"; the definitions are in specs/.
 ghost use mathlib.Core.Path.{_≡_};
-ghost use Prim.Native.Nat.{min, _≤_};
+ghost use mathlib.Core.List.{[], _∷_, _++_};
+ghost use Prim.Native.Nat.{min, _+_, _≤_, _<_};
 ghost use lib.ListN.{length};
-ghost use Rattle.names.specs.Names.{limit, rowOf};
+ghost use Rattle.names.specs.Names.{limit, fits, rowOf, valueOf, joined};
 ghost use Rattle.names.specs.Ordering.{compareℕ, compareℤ, then, compareTuples, compareRows};
 
 // The most tuples that a name has.
@@ -115,4 +116,66 @@ pub fn compare(a: Name, b: Name) -> Order
         }
         i += 1;
     }
+}
+
+// The row of no tuples, zeros after it: no name, or a name that is missing.
+pub fn empty() -> Name
+    ensures { λ r. ⌜ r ≡ valueOf [] ⌝ }
+{
+    let zero = Tuple {
+        position: 0,
+        node: 0,
+        sequence: 0,
+        offset: 0,
+    };
+    let tuples = [zero; LIMIT];
+    Name { depth: 0, tuples }
+}
+
+// One tuple more, of a row with zeros after it.
+pub fn push(a: Name, t: Tuple) -> Name
+    requires { ⌜ (a ≡ valueOf (rowOf a)) × (length (rowOf a) < limit) ⌝ }
+    ensures { λ r. ⌜ r ≡ valueOf (rowOf a ++ (t ∷ [])) ⌝ }
+{
+    let n = a.depth;
+    let mut tuples = a.tuples;
+    tuples[n] = t;
+    Name {
+        depth: n + 1,
+        tuples,
+    }
+}
+
+// The tuples of b after those of a, which has zeros after them.
+fn append(a: Name, b: Name) -> Name
+    requires { ⌜ (a ≡ valueOf (rowOf a)) × (length (rowOf a) + length (rowOf b) ≤ limit) ⌝ }
+    ensures { λ r. ⌜ r ≡ valueOf (rowOf a ++ rowOf b) ⌝ }
+{
+    let t = b.tuples;
+    let n = tuples_in(b);
+    let mut r = a;
+    let mut i: usize = 0;
+    while i < n {
+        r = push(r, t[i]);
+        i += 1;
+    }
+    r
+}
+
+// Two rows joined, and whether they are at most LIMIT tuples together.
+pub struct Joined {
+    pub fits: bool,
+    pub name: Name,
+}
+
+// "a·b means the tuples of a, then those of b." Where these are more than LIMIT there is no name.
+pub fn join(a: Name, b: Name) -> Joined
+    ensures { λ r. ⌜ (r .fits ≡ fits (rowOf a ++ rowOf b)) × (r .name ≡ valueOf (joined (rowOf a) (rowOf b))) ⌝ }
+{
+    if LIMIT < tuples_in(a) + tuples_in(b) {
+        let name = empty();
+        return Joined { fits: false, name };
+    }
+    let name = append(append(empty(), a), b);
+    Joined { fits: true, name }
 }

@@ -1,0 +1,4 @@
+pub mod Prefixes
+pub mod Rules
+pub mod NewNames
+pub mod Settled

@@ -1,0 +1,102 @@
+-- The rule for new names, way by way, as the code takes it. Assumes nothing.
+use mathlib.Core.Path.{_≡_, refl, ap, subst}
+use mathlib.Core.Logic.{_⊎_, inl, inr}
+use mathlib.Core.List.{[], _∷_, _++_}
+use mathlib.Core.Option.{Option, none, some}
+use mathlib.Core.Bool.{Bool, true, false, cond}
+use Prim.Native.Nat.{ℕ, zero, suc, _+_, _-_, _/_, _<_, _≤_}
+use native.Mathlib.Nat.{not-suc-le-zero}
+use native.Mathlib.Omega.{arith}
+use borrow.Author.Tests.{le-ltb, le-leb, lt-leb, eq-eqb, ne-eqb}
+use lib.IntN.{ℤ, pos, negsuc, predℤ, _-ℤ_}
+use lib.ListN.{length, getD, drop}
+use lib.Seq.{drop-cons}
+use lib.Signed.{leZ, nonNeg, mag}
+use lib.Dec.{leb·zero}
+use Rattle.names.specs.declared.Tuple.{Tuple}
+use Rattle.names.specs.declared.Name.{Name}
+use Rattle.names.specs.Ordering.{Row, compareTuples, isSame}
+use Rattle.names.specs.Names.{valueOf, lowered, m}
+use Rattle.pages.specs.declared.Answer.{Answer}
+use Rattle.gaps.specs.NewNames.{firstBefore, firstAfter, rest, own, beforeTuple, closeBy, newName, answerName}
+
+-- the answer x and the name n say what o says
+abbrev pub Given : Answer → Name → Option Row → Type 0
+Given x n o = (x ≡ answerName o .answer) × (n ≡ valueOf (answerName o .name))
+
+pub given : (x : Answer) (n : Name) {o o' : Option Row} → o ≡ o' → Given x n o → Given x n o'
+given x n e p = subst (λ (o : Option Row). Given x n o) e p
+
+-- ── an offset ──
+
+pub sign : (z : ℤ) → leZ (pos 0) z ≡ nonNeg z
+sign (pos n) = leb·zero n
+sign (negsuc n) = refl
+
+pub less-one : (z : ℤ) → nonNeg z ≡ true → z -ℤ pos 1 ≡ predℤ z
+less-one (pos zero) e = refl
+less-one (pos (suc n)) e =
+    let h : 1 ≤ suc n = omega arith in
+    let q : suc n - 1 ≡ n = omega arith in
+    simp (le-ltb (suc n) 1 h) (ap pos q)
+less-one (negsuc n) e = absurd (let z : _≡_ {A = ℕ} 0 1 = cc in omega arith)
+
+pub mag-less : (z : ℤ) (w : ℕ) → nonNeg z ≡ true → mag z < w → mag (predℤ z) < w
+mag-less (pos zero) w e h = h
+mag-less (pos (suc n)) w e h = omega arith
+mag-less (negsuc n) w e h = absurd (let z : _≡_ {A = ℕ} 0 1 = cc in omega arith)
+
+-- ── before b's first tuple after a ──
+
+module _ (node sequence : ℕ) (a : Row) (y : Tuple) where
+  pub half : 2 ≤ y .position → some (a ++ (own node sequence (y .position / 2) ∷ [])) ≡ beforeTuple node sequence a y
+  unfolding beforeTuple
+  half h = simp (le-leb 2 (y .position) h)
+
+  pub lower : y .position ≡ 1 → nonNeg (y .offset) ≡ true → some (a ++ (lowered y ∷ own node sequence 32768 ∷ [])) ≡ beforeTuple node sequence a y
+  unfolding beforeTuple
+  lower e h = let l : y .position < 2 = omega arith in simp (lt-leb 2 (y .position) l, eq-eqb (y .position) 1 e, h)
+
+  pub no-position : y .position < 2 → (y .position ≡ 1 → ⊥) → none ≡ beforeTuple node sequence a y
+  unfolding beforeTuple
+  no-position l e = simp (lt-leb 2 (y .position) l, ne-eqb (y .position) 1 e)
+
+  pub no-offset : y .position ≡ 1 → nonNeg (y .offset) ≡ false → none ≡ beforeTuple node sequence a y
+  unfolding beforeTuple
+  no-offset e h = let l : y .position < 2 = omega arith in simp (lt-leb 2 (y .position) l, eq-eqb (y .position) 1 e, h)
+
+-- ── by what follows a in b ──
+
+no-rest : (a b : Row) → length b ≤ length a → (rest a b ≡ some []) ⊎ (rest a b ≡ none)
+unfolding rest
+no-rest [] [] h = inl refl
+no-rest [] (t ∷ b) h = absurd (not-suc-le-zero h)
+no-rest (s ∷ a) [] h = inr refl
+no-rest (s ∷ a) (t ∷ b) h = go (isSame (compareTuples s t)) (no-rest a b (omega arith))
+  where
+    go : (c : Bool) → (rest a b ≡ some []) ⊎ (rest a b ≡ none) → (cond c (rest a b) none ≡ some []) ⊎ (cond c (rest a b) none ≡ none)
+    go true r = r
+    go false r = inr refl
+
+module _ (node sequence : ℕ) (a b : Row) where
+  pub close-short : length b ≤ length a → some (a ++ (own node sequence 32768 ∷ [])) ≡ closeBy node sequence a (rest a b)
+  unfolding closeBy
+  close-short h = elim (no-rest a b h) [ inl e ↦ rw e | inr e ↦ rw e ]
+
+  pub close-apart : rest a b ≡ none → some (a ++ (own node sequence 32768 ∷ [])) ≡ closeBy node sequence a (rest a b)
+  unfolding closeBy
+  close-apart e = rw e
+
+  pub close-before : rest a b ≡ some (drop (length a) b) → length a < length b → beforeTuple node sequence a (getD b (length a) m) ≡ closeBy node sequence a (rest a b)
+  unfolding closeBy
+  close-before e h = rw (e, drop-cons b (length a) m h)
+
+  -- ── by first positions ──
+
+  pub new-apart : firstBefore a + 2 ≤ firstAfter b → some (own node sequence ((firstBefore a + firstAfter b) / 2) ∷ []) ≡ newName node sequence a b
+  unfolding newName
+  new-apart h = simp (le-leb (firstBefore a + 2) (firstAfter b) h)
+
+  pub new-close : firstAfter b < firstBefore a + 2 → closeBy node sequence a (rest a b) ≡ newName node sequence a b
+  unfolding newName
+  new-close h = simp (lt-leb (firstBefore a + 2) (firstAfter b) h)

@@ -1,0 +1,265 @@
+// New names: a name for a gap of a page. Document 01, "New names"; the definitions are in specs/.
+ghost use mathlib.Core.Path.{_≡_};
+ghost use mathlib.Core.List.{[], _∷_, _++_};
+ghost use mathlib.Core.Option.{none, some};
+ghost use mathlib.Core.Bool.{true, cond};
+ghost use Prim.Native.Nat.{_≤_};
+ghost use lib.ListN.{length, drop, getD};
+ghost use lib.IntN.{predℤ};
+ghost use lib.Signed.{nonNeg};
+ghost use Rattle.names.specs.Names.{rowOf, valueOf, lowered};
+ghost use Rattle.pages.specs.Pages.{namesOf};
+ghost use Rattle.gaps.specs.NewNames.{firstBefore, firstAfter, rest, own as ownTuple, beforeTuple, closeBy, newName, nameBefore, refuseName, answerName, newNameIn};
+use names::Name;
+use names::Order;
+use names::Tuple;
+use pages::Answer;
+use pages::Refusal;
+use slots::SLOT;
+
+// "First positions count 0 for a missing a and 65535 for a missing b."
+const LOWEST: u32 = 0;
+
+const HIGHEST: u32 = 65535;
+
+// The position of a new tuple that only has to follow what stands before it: half way.
+const MIDDLE: u16 = 32768;
+
+// What comes back: the answer, and the name, which a refusal does not have.
+pub struct NewName {
+    pub answer: Answer,
+    pub name: Name,
+}
+
+fn refused(r: Refusal) -> NewName
+    ensures { λ n. ⌜ (n .answer ≡ refuseName r .answer) × (n .name ≡ valueOf (refuseName r .name)) ⌝ }
+{
+    let name = names::empty();
+    NewName {
+        answer: Answer::Refused(r),
+        name,
+    }
+}
+
+// "author's node and sequence, offset 0"
+fn own(node: u16, sequence: u32, position: u16) -> Tuple
+    ensures { λ r. ⌜ r ≡ ownTuple node sequence position ⌝ }
+{
+    Tuple {
+        position,
+        node,
+        sequence,
+        offset: 0,
+    }
+}
+
+// The name of one tuple.
+fn one(t: Tuple) -> Name
+    ensures { λ r. ⌜ r ≡ valueOf (t ∷ []) ⌝ }
+{
+    names::push(names::empty(), t)
+}
+
+// The name of two tuples.
+fn two(s: Tuple, t: Tuple) -> Name
+    ensures { λ r. ⌜ r ≡ valueOf (s ∷ t ∷ []) ⌝ }
+{
+    names::push(one(s), t)
+}
+
+// a·b, or 6 where that has too many tuples.
+fn extended(a: Name, b: Name) -> NewName
+    ensures { λ r. ⌜ (r .answer ≡ answerName (some (rowOf a ++ rowOf b)) .answer) × (r .name ≡ valueOf (answerName (some (rowOf a ++ rowOf b)) .name)) ⌝ }
+{
+    let j = names::join(a, b);
+    if j.fits {
+        let name = j.name;
+        NewName {
+            answer: Answer::Accepted(0),
+            name,
+        }
+    } else {
+        refused(Refusal::TooDeep)
+    }
+}
+
+fn wide(x: u16) -> u32
+    ensures { λ r. ⌜ (r ≡ x) × (r ≤ 65535) ⌝ }
+{
+    x as u32
+}
+
+// The position of a's first tuple; a may be missing.
+fn first_before(a: Name) -> u32
+    ensures { λ r. ⌜ (r ≡ firstBefore (rowOf a)) × (r ≤ 65535) ⌝ }
+{
+    if names::tuples_in(a) < 1 {
+        return LOWEST;
+    }
+    let t = a.tuples;
+    wide(t[0].position)
+}
+
+// The position of b's first tuple; b may be missing.
+fn first_after(b: Name) -> u32
+    ensures { λ r. ⌜ (r ≡ firstAfter (rowOf b)) × (r ≤ 65535) ⌝ }
+{
+    if names::tuples_in(b) < 1 {
+        return HIGHEST;
+    }
+    let t = b.tuples;
+    wide(t[0].position)
+}
+
+// a is a prefix of b: then what follows it are b's tuples from a's length on.
+fn is_prefix(a: Name, b: Name) -> bool
+    ensures { λ r. ⌜ rest (rowOf a) (rowOf b) ≡ cond r (some (drop (length (rowOf a)) (rowOf b))) none ⌝ }
+{
+    let s = a.tuples;
+    let t = b.tuples;
+    let n = names::tuples_in(a);
+    let m = names::tuples_in(b);
+    let mut i: usize = 0;
+    loop {
+        if n <= i {
+            break true;
+        }
+        if m <= i {
+            break false;
+        }
+        match names::compare_tuples(s[i], t[i]) {
+            Order::Less => break false,
+            Order::Same => {}
+            Order::More => break false,
+        }
+        i += 1;
+    }
+}
+
+fn not_below_zero(z: i32) -> bool
+    ensures { λ r. ⌜ r ≡ nonNeg z ⌝ }
+{
+    0 <= z
+}
+
+fn one_less(z: i32) -> i32
+    requires { ⌜ nonNeg z ≡ true ⌝ }
+    ensures { λ r. ⌜ r ≡ predℤ z ⌝ }
+{
+    z - 1
+}
+
+// "y one offset lower"
+fn one_lower(t: Tuple) -> Tuple
+    requires { ⌜ nonNeg (t .offset) ≡ true ⌝ }
+    ensures { λ r. ⌜ r ≡ lowered t ⌝ }
+{
+    let offset = one_less(t.offset);
+    Tuple {
+        position: t.position,
+        node: t.node,
+        sequence: t.sequence,
+        offset,
+    }
+}
+
+// "If y's position is 2 or more: a·(half that position rounded down, node, sequence, 0). If it is 1 and y's offset is at
+// least 0: a·(y one offset lower)·(32768, node, sequence, 0). Otherwise answer 12."
+fn before_tuple(a: Name, y: Tuple, node: u16, sequence: u32) -> NewName
+    ensures { λ r. ⌜ (r .answer ≡ answerName (beforeTuple node sequence (rowOf a) y) .answer) × (r .name ≡ valueOf (answerName (beforeTuple node sequence (rowOf a) y) .name)) ⌝ }
+{
+    if 2 <= y.position {
+        return extended(a, one(own(node, sequence, y.position / 2)));
+    }
+    if y.position != 1 {
+        return refused(Refusal::NoNewName);
+    }
+    if not_below_zero(y.offset) {
+        extended(a, two(one_lower(y), own(node, sequence, MIDDLE)))
+    } else {
+        refused(Refusal::NoNewName)
+    }
+}
+
+// "3. Else a·(32768, node, sequence, 0)."
+fn right_after(a: Name, node: u16, sequence: u32) -> NewName
+    ensures { λ r. ⌜ (r .answer ≡ answerName (some (rowOf a ++ (ownTuple node sequence 32768 ∷ []))) .answer) × (r .name ≡ valueOf (answerName (some (rowOf a ++ (ownTuple node sequence 32768 ∷ []))) .name)) ⌝ }
+{
+    extended(a, one(own(node, sequence, MIDDLE)))
+}
+
+// "2. Else if a is missing or a proper prefix of b, let y be b's first tuple after a."
+fn close_by(a: Name, b: Name, node: u16, sequence: u32) -> NewName
+    ensures { λ r. ⌜ (r .answer ≡ answerName (closeBy node sequence (rowOf a) (rest (rowOf a) (rowOf b))) .answer) × (r .name ≡ valueOf (answerName (closeBy node sequence (rowOf a) (rest (rowOf a) (rowOf b))) .name)) ⌝ }
+{
+    let n = names::tuples_in(a);
+    if names::tuples_in(b) <= n {
+        return right_after(a, node, sequence);
+    }
+    if is_prefix(a, b) {
+        let t = b.tuples;
+        before_tuple(a, t[n], node, sequence)
+    } else {
+        right_after(a, node, sequence)
+    }
+}
+
+// "1. If they differ by 2 or more: one tuple, position half their sum rounded down, author's node and sequence, offset 0."
+fn new_between(a: Name, b: Name, node: u16, sequence: u32) -> NewName
+    ensures { λ r. ⌜ (r .answer ≡ answerName (newName node sequence (rowOf a) (rowOf b)) .answer) × (r .name ≡ valueOf (answerName (newName node sequence (rowOf a) (rowOf b)) .name)) ⌝ }
+{
+    let low = first_before(a);
+    let high = first_after(b);
+    if low + 2 <= high {
+        let name = one(own(node, sequence, ((low + high) / 2) as u16));
+        return NewName {
+            answer: Answer::Accepted(0),
+            name,
+        };
+    }
+    close_by(a, b, node, sequence)
+}
+
+// The name of slot k, or none beyond the page.
+fn name_of(page: &[u8], k: usize) -> Name
+    ensures { λ r. ⌜ rowOf r ≡ getD (namesOf (now (page .entry))) k [] ⌝ }
+{
+    if k < page.len() / SLOT {
+        let at = SLOT * k;
+        let end = at + SLOT;
+        slots::read_name(&page[at..end])
+    } else {
+        names::empty()
+    }
+}
+
+// The name before a gap; before the first slot there is none.
+fn name_before(page: &[u8], gap: usize) -> Name
+    ensures { λ r. ⌜ rowOf r ≡ nameBefore gap (namesOf (now (page .entry))) ⌝ }
+{
+    if gap < 1 {
+        return names::empty();
+    }
+    name_of(page, gap - 1)
+}
+
+// 1, 2, 4, 16, 12, 6; else a new name for the gap before slot `gap`, or after the last.
+pub fn new_name(page: &[u8], gap: usize, node: u16, sequence: u32) -> NewName
+    ensures { λ r. ⌜ (r .answer ≡ newNameIn (now (page .entry)) gap node sequence .answer) × (r .name ≡ valueOf (newNameIn (now (page .entry)) gap node sequence .name)) ⌝ }
+{
+    if pages::page_ok(page) {
+        if pages::page_rises(page) {
+            if node < 1 {
+                return refused(Refusal::NoAuthor);
+            }
+            if page.len() / SLOT < gap {
+                return refused(Refusal::NoGap);
+            }
+            new_between(name_before(page, gap), name_of(page, gap), node, sequence)
+        } else {
+            refused(Refusal::NotRising)
+        }
+    } else {
+        refused(Refusal::BadLayout)
+    }
+}
