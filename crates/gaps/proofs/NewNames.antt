@@ -16,9 +16,9 @@ use lib.Signed.{nonNeg}
 use Rattle.names.specs.declared.Tuple.{Tuple}
 use Rattle.names.specs.declared.Order.{Order}
 use Rattle.names.specs.declared.Order.the-variants.{Less, Same, More}
-use Rattle.names.specs.Ordering.{Row, compareTuples, isSame, _<ᶻ_, up, across, _<ᵗ_, position, _<ⁿ_, ends, differ, same, Rising}
+use Rattle.names.specs.Ordering.{Row, compareTuples, isSame, _<ᶻ_, up, across, _<ᵗ_, position, _<ⁿ_, ends, differ, Rising}
 use Rattle.names.specs.Names.{fits, isName, lowered}
-use Rattle.names.proofs.Laws.{Tri, level, triT, tuple-same, <ⁿ-irrefl, ++-prefix, ++-left, lowered-below, and-0, and-1, rising-Rising}
+use Rattle.names.proofs.Laws.{Before, prefix, apart, before, Tri, level, triT, tuple-same, <ⁿ-irrefl, ++-prefix, ++-left, lowered-below, and-0, and-1, rising-Rising}
 use Rattle.names.proofs.Validity.{Ordinary, Middle, plain, marker-m, marker-M, Ends, final, onward, Valid, valid, name-valid, valid-name, valid-ends, ends-middle, lowered-ordinary}
 use Rattle.slots.specs.Bytes.{Bytes, every}
 use Rattle.slots.specs.Slots.{slotOf, keepsSlot}
@@ -51,20 +51,6 @@ Every P (some c) = P c
 
 abbrev pub Between : Row → Row → Row → Type 0
 Between a b c = (a <ⁿ c) × Under c b
-
--- a < b: a is a proper prefix of b, or they differ at a place, and then whatever follows a is below whatever follows b
-data Before (a b : Row) : Type 0 where
-  prefix : (t : Tuple) (u : Row) → b ≡ a ++ (t ∷ u) → Before a b
-  apart : ((x y : Row) → a ++ x <ⁿ b ++ y) → Before a b
-
-before : {a b : Row} → a <ⁿ b → Before a b
-before (ends {t} {b}) = prefix t b refl
-before (differ h) = apart (λ x y. differ h)
-before (same {s} {t} {a} {b} e h) = go (before h)
-  where
-    go : Before a b → Before (s ∷ a) (t ∷ b)
-    go (prefix u v f) = prefix u v (cc)
-    go (apart f) = apart (λ x y. same e (f x y))
 
 rest-prefix : (a r : Row) → rest a (a ++ r) ≡ some r
 unfolding rest

@@ -244,6 +244,20 @@ pub ++-cancel : (a : Row) {x y : Row} → a ++ x <ⁿ a ++ y → x <ⁿ y
 ++-cancel (s ∷ a) (differ h) = absurd (<ᵗ-irrefl h)
 ++-cancel (s ∷ a) (same e h) = ++-cancel a h
 
+-- a is below b: it is a proper prefix of b, or they differ at a place, and then whatever follows a is below whatever follows b
+pub data Before (a b : Row) : Type 0 where
+  prefix : (t : Tuple) (u : Row) → b ≡ a ++ (t ∷ u) → Before a b
+  apart : ((x y : Row) → a ++ x <ⁿ b ++ y) → Before a b
+
+pub before : {a b : Row} → a <ⁿ b → Before a b
+before (ends {t} {b}) = prefix t b refl
+before (differ h) = apart (λ x y. differ h)
+before (same {s} {t} {a} {b} e h) = go (before h)
+  where
+    go : Before a b → Before (s ∷ a) (t ∷ b)
+    go (prefix u v f) = prefix u v (cc)
+    go (apart f) = apart (λ x y. same e (f x y))
+
 -- ── one offset lower ──
 
 pub pred-below : (z : ℤ) → predℤ z <ᶻ z

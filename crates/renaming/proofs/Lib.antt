@@ -1,0 +1,11 @@
+pub mod Splits
+pub mod Lists
+pub mod Fresh
+pub mod Table
+pub mod Forward
+pub mod Gaps
+pub mod Walk
+pub mod GivenBack
+pub mod Backward
+pub mod Validity
+pub mod Starred
