@@ -16,6 +16,7 @@ use crate::say::title;
 use crate::say::tuple;
 use crate::say::two;
 use names::Name;
+use names::Tuple;
 use pages::PAGE;
 use pages::Place;
 use slots::SLOT;
@@ -80,7 +81,7 @@ fn log_of(label: &[u8], bytes: &[u8], n: usize) {
     say(label, pages::check_log(first(bytes, n)));
 }
 
-fn sizes(bytes: &[u8; 257 * SLOT]) {
+fn page_sizes(bytes: &[u8; 257 * SLOT]) {
     page_of(b"no slot", bytes, 0);
     page_of(b"a byte less than a slot", bytes, SLOT - 1);
     page_of(b"a byte more than a slot", bytes, SLOT + 1);
@@ -88,6 +89,9 @@ fn sizes(bytes: &[u8; 257 * SLOT]) {
     page_of(b"256 slots", bytes, PAGE);
     page_of(b"a byte more than 256 slots", bytes, PAGE + 1);
     page_of(b"257 slots", bytes, PAGE + SLOT);
+}
+
+fn log_sizes(bytes: &[u8; 257 * SLOT]) {
     log_of(b"a log of none", bytes, 0);
     log_of(b"a log of one", bytes, SLOT);
     log_of(b"a log of 256", bytes, PAGE);
@@ -97,7 +101,8 @@ fn sizes(bytes: &[u8; 257 * SLOT]) {
 fn size_cases() {
     let mut bytes = [0u8; 257 * SLOT];
     fill(&mut bytes, 257);
-    sizes(&bytes);
+    page_sizes(&bytes);
+    log_sizes(&bytes);
 }
 
 // Where a name stands among r0, r1, r2: 0 and its slot, or 1 and its gap.
@@ -120,8 +125,7 @@ fn find(label: &[u8], page: &[u8], slot: &[u8; SLOT]) {
     }
 }
 
-pub(crate) fn slot_cases() {
-    title(b"slots: 0 accepted, 1 broken layout");
+fn layout_cases() {
     named(b"r0", r0());
     named(b"r1", r1());
     named(
@@ -131,6 +135,9 @@ pub(crate) fn slot_cases() {
     damaged(b"depth byte 0", 0, 0);
     damaged(b"depth byte 9", 0, 9);
     damaged(b"depth byte 1, a tuple in the filler", 0, 1);
+}
+
+fn filler_cases() {
     damaged(b"depth byte 3, a zero tuple last", 0, 3);
     damaged(b"first zero byte", 1, 1);
     damaged(b"third zero byte", 3, 1);
@@ -139,21 +146,31 @@ pub(crate) fn slot_cases() {
     damaged(b"last byte of the filler", 103, 1);
 }
 
-pub(crate) fn name_cases() {
-    let t = tuple(9, 2, 0, 0);
-    title(b"names: 0 accepted, 1 broken layout");
+pub(crate) fn slot_cases() {
+    title(b"slots: 0 accepted, 1 broken layout");
+    layout_cases();
+    filler_cases();
+}
+
+fn marker_cases(t: Tuple) {
     named(b"m first", two(low_marker(), t));
     named(b"M first", two(high_marker(), t));
     named(b"m last", two(t, low_marker()));
     named(b"M last", two(t, high_marker()));
     named(b"m between", three(t, low_marker(), t));
     named(b"M between", three(t, high_marker(), t));
+}
+
+fn offset_cases(t: Tuple) {
     named(b"last offset -1", one(tuple(9, 2, 0, -1)));
     named(b"inner offset -1", two(tuple(9, 2, 0, -1), t));
     named(b"inner offset -2", two(tuple(9, 2, 0, -2), t));
     named(b"offset -2147483648", two(tuple(9, 2, 0, -2147483648), t));
     named(b"offset 2147483646", one(tuple(9, 2, 0, 2147483646)));
     named(b"offset 2147483647", one(tuple(9, 2, 0, 2147483647)));
+}
+
+fn range_cases() {
     named(b"position 0", one(tuple(0, 2, 0, 0)));
     named(b"position 65534", one(tuple(65534, 2, 0, 0)));
     named(b"position 65535", one(tuple(65535, 2, 0, 0)));
@@ -161,8 +178,15 @@ pub(crate) fn name_cases() {
     named(b"node 65535", one(tuple(9, 65535, 4294967295, 0)));
 }
 
-pub(crate) fn page_cases() {
-    title(b"pages of two: 0 accepted, 2 not rising");
+pub(crate) fn name_cases() {
+    let t = tuple(9, 2, 0, 0);
+    title(b"names: 0 accepted, 1 broken layout");
+    marker_cases(t);
+    offset_cases(t);
+    range_cases();
+}
+
+fn pair_cases() {
     pair(b"r0, r1", r0(), r1());
     pair(b"r1, r2", r1(), r2());
     pair(b"r1, r0", r1(), r0());
@@ -177,6 +201,11 @@ pub(crate) fn page_cases() {
         r0(),
         two(tuple(9, 2, 0, -1), tuple(6, 1, 0, 0)),
     );
+}
+
+pub(crate) fn page_cases() {
+    title(b"pages of two: 0 accepted, 2 not rising");
+    pair_cases();
     title(b"pages and logs by size: 0 accepted, 1 broken layout, 3 no log");
     size_cases();
     title(b"logs: 0 accepted, 3 no log");

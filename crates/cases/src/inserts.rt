@@ -107,8 +107,7 @@ fn refusals(insert: bool) {
     );
 }
 
-pub(crate) fn insert_cases() {
-    title(b"insert: 0 accepted, 1 broken layout, 2 not rising, 8 short output, 9 present, 11 full");
+fn inserts_shown() {
     shown(b"below r0", true, one(tuple(9, 1, 0, 0)));
     shown(
         b"between r0 and r1",
@@ -121,7 +120,9 @@ pub(crate) fn insert_cases() {
         two(tuple(9, 2, 0, 0), tuple(13, 2, 1, 0)),
     );
     shown(b"above r2", true, one(tuple(9, 2, 0, 2)));
-    refusals(true);
+}
+
+fn insert_sizes() {
     sized(b"a present name, page of 255", true, 255, 254, PAGE);
     sized(b"a present name, page of 256", true, 256, 255, PAGE);
     sized(b"a new name, page of 255", true, 255, 255, PAGE);
@@ -132,12 +133,14 @@ pub(crate) fn insert_cases() {
     sized(b"a page of 256, no output", true, 256, 256, 0);
 }
 
-pub(crate) fn remove_cases() {
-    title(b"remove: 0 accepted, 1 broken layout, 2 not rising, 8 short output, 10 absent");
-    shown(b"r0", false, r0());
-    shown(b"r1", false, r1());
-    shown(b"r2", false, r2());
-    refusals(false);
+pub(crate) fn insert_cases() {
+    title(b"insert: 0 accepted, 1 broken layout, 2 not rising, 8 short output, 9 present, 11 full");
+    inserts_shown();
+    refusals(true);
+    insert_sizes();
+}
+
+fn remove_sizes() {
     sized(b"a name absent", false, 2, 2, PAGE);
     sized(b"a name present", false, 2, 1, PAGE);
     sized(b"the last of one, no output", false, 1, 0, 0);
@@ -145,4 +148,13 @@ pub(crate) fn remove_cases() {
     sized(b"output for 1 slot", false, 2, 1, SLOT);
     sized(b"output for 1 slot less a byte", false, 2, 1, SLOT - 1);
     sized(b"a name absent, no output", false, 2, 2, 0);
+}
+
+pub(crate) fn remove_cases() {
+    title(b"remove: 0 accepted, 1 broken layout, 2 not rising, 8 short output, 10 absent");
+    shown(b"r0", false, r0());
+    shown(b"r1", false, r1());
+    shown(b"r2", false, r2());
+    refusals(false);
+    remove_sizes();
 }

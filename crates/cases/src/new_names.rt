@@ -116,10 +116,7 @@ fn refusals() {
     between(b"no gap", r0(), r1(), 3, 4);
 }
 
-pub(crate) fn new_name_cases() {
-    title(
-        b"new names: 0 accepted, 1 broken layout, 2 not rising, 4 no author, 6 too deep, 12 none by the rule, 16 no gap",
-    );
+fn gap_cases() {
     ask(b"in an empty page", b"", 0, 4);
     ask(b"in an empty page, gap 1", b"", 1, 4);
     among(b"before r0", 0, 4);
@@ -128,7 +125,9 @@ pub(crate) fn new_name_cases() {
     among(b"after r2", 3, 4);
     among(b"gap 4 of three", 4, 4);
     among(b"author 0", 0, 0);
-    refusals();
+}
+
+fn edge_cases() {
     beside(b"before position 1", one(tuple(1, 2, 0, 0)), 0);
     beside(
         b"before position 1, offset -1",
@@ -139,12 +138,25 @@ pub(crate) fn new_name_cases() {
     beside(b"before position 3", one(tuple(3, 2, 0, 0)), 0);
     beside(b"after position 65533", one(tuple(65533, 2, 0, 0)), 1);
     beside(b"after position 65534", one(tuple(65534, 2, 0, 0)), 1);
+}
+
+fn prefix_cases() {
     before(b"y at position 0", low_marker());
     before(b"y at position 1, offset -1", tuple(1, 1, 0, -1));
     before(b"y at position 1, offset 0", tuple(1, 1, 0, 0));
     before(b"y at position 1, offset 1", tuple(1, 1, 0, 1));
     before(b"y at position 2", tuple(2, 1, 0, 0));
     before(b"y at position 65535", high_marker());
+}
+
+pub(crate) fn new_name_cases() {
+    title(
+        b"new names: 0 accepted, 1 broken layout, 2 not rising, 4 no author, 6 too deep, 12 none by the rule, 16 no gap",
+    );
+    gap_cases();
+    refusals();
+    edge_cases();
+    prefix_cases();
     after_deep(b"after depth 7", 7);
     after_deep(b"after depth 8", 8);
     between_deep(b"between depths 6 and 7", 6);
