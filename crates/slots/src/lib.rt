@@ -22,6 +22,26 @@ pub const HEAD: usize = 8;
 
 pub const SLOT: usize = HEAD + TUPLE * LIMIT;
 
+// Where the line number stands in a slot, and node, sequence and offset in a tuple, after its position.
+const LINE: usize = 4;
+
+const NODE: usize = 2;
+
+const SEQUENCE: usize = 4;
+
+const OFFSET: usize = 8;
+
+// "An ordinary tuple has position 1..65534"
+const LAST_POSITION: u16 = 65534;
+
+// "M = (65535, 65535, 4294967295, 2147483647)": position, node and sequence as one number, and the offset.
+const HIGH_FRONT: u64 = 18446744073709551615;
+
+const HIGH_OFFSET: u32 = 2147483647;
+
+// Offsets whose bits are this or more are below 0.
+const NEGATIVE: u32 = 2147483648;
+
 fn wide16(x: u8) -> u16
     ensures { λ r. ⌜ (r ≡ x) × (r < 256) ⌝ }
 {
@@ -83,7 +103,7 @@ fn read_u64(s: &[u8], p: usize) -> u64
 fn to_signed(v: u32) -> i32
     ensures { λ r. ⌜ r ≡ signed v ⌝ }
 {
-    if v < 2147483648 {
+    if v < NEGATIVE {
         return v as i32;
     }
     let low = 4294967295 - v;
@@ -95,9 +115,9 @@ pub fn read_tuple(s: &[u8], p: usize) -> Tuple
     ensures { λ r. ⌜ r ≡ tupleAt (now (s .entry)) p ⌝ }
 {
     let position = read_u16(s, p);
-    let node = read_u16(s, p + 2);
-    let sequence = read_u32(s, p + 4);
-    let offset = to_signed(read_u32(s, p + 8));
+    let node = read_u16(s, p + NODE);
+    let sequence = read_u32(s, p + SEQUENCE);
+    let offset = to_signed(read_u32(s, p + OFFSET));
     Tuple {
         position,
         node,
@@ -140,7 +160,7 @@ pub fn read_line(s: &[u8]) -> u32
     requires { ⌜ length (now s) ≡ slotSize ⌝ }
     ensures { λ r. ⌜ r ≡ lineOf (now (s .entry)) ⌝ }
 {
-    read_u32(s, 4)
+    read_u32(s, LINE)
 }
 
 // The name in a slot.
@@ -159,11 +179,11 @@ pub fn compare_slots(a: &[u8], b: &[u8]) -> Order
     names::compare(read_name(a), read_name(b))
 }
 
-// Offsets -1..2147483646, by their bits.
+// Offsets -1..2147483646, by their bits: raised by one, with -1 at 0, they end at M's offset.
 fn offset_ok(o: u32) -> bool
     ensures { λ r. ⌜ r ≡ withinℤ (negsuc 0) (pos 2147483646) (signed o) ⌝ }
 {
-    std::num::wrapping_add_u32(o, 1) <= 2147483647
+    std::num::wrapping_add_u32(o, 1) <= HIGH_OFFSET
 }
 
 // An ordinary tuple stands at p.
@@ -175,13 +195,13 @@ fn ordinary_at(s: &[u8], p: usize) -> bool
     if position < 1 {
         return false;
     }
-    if 65534 < position {
+    if LAST_POSITION < position {
         return false;
     }
-    if read_u16(s, p + 2) < 1 {
+    if read_u16(s, p + NODE) < 1 {
         return false;
     }
-    offset_ok(read_u32(s, p + 8))
+    offset_ok(read_u32(s, p + OFFSET))
 }
 
 // An ordinary tuple with an offset of at least 0 stands at p.
@@ -190,7 +210,7 @@ fn last_at(s: &[u8], p: usize) -> bool
     ensures { λ r. ⌜ r ≡ ordinaryFrom (pos 0) (tupleAt (now (s .entry)) p) ⌝ }
 {
     if ordinary_at(s, p) {
-        read_u32(s, p + 8) < 2147483648
+        read_u32(s, p + OFFSET) < NEGATIVE
     } else {
         false
     }
@@ -202,12 +222,12 @@ fn marker_at(s: &[u8], p: usize) -> bool
     ensures { λ r. ⌜ r ≡ marker (tupleAt (now (s .entry)) p) ⌝ }
 {
     let front = read_u64(s, p);
-    let offset = read_u32(s, p + 8);
+    let offset = read_u32(s, p + OFFSET);
     if front == 0 {
         return offset == 0;
     }
-    if front == 18446744073709551615 {
-        return offset == 2147483647;
+    if front == HIGH_FRONT {
+        return offset == HIGH_OFFSET;
     }
     false
 }
@@ -251,7 +271,7 @@ fn zero_at(s: &[u8], p: usize) -> bool
     ensures { λ r. ⌜ r ≡ allZero (take tupleSize (drop p (now (s .entry)))) ⌝ }
 {
     if read_u64(s, p) == 0 {
-        read_u32(s, p + 8) == 0
+        read_u32(s, p + OFFSET) == 0
     } else {
         false
     }
@@ -327,8 +347,8 @@ pub fn write_tuple(out: &mut [u8], p: usize, t: Tuple)
     ensures { λ _. ⌜ now (out .exit) ≡ put (now (out .entry)) p (tupleBytes t) ⌝ }
 {
     write_u32(out, p, (t.position as u32) * 65536 + (t.node as u32));
-    write_u32(out, p + 4, t.sequence);
-    write_u32(out, p + 8, to_unsigned(t.offset));
+    write_u32(out, p + SEQUENCE, t.sequence);
+    write_u32(out, p + OFFSET, to_unsigned(t.offset));
 }
 
 // The tuples of a name, one after the other from p on.
@@ -364,7 +384,7 @@ pub fn write_slot(out: &mut [u8], p: usize, line: u32, a: Name)
 {
     let d = names::tuples_in(a);
     write_u32(out, p, (d as u32) * 16777216);
-    write_u32(out, p + 4, line);
+    write_u32(out, p + LINE, line);
     write_row(out, p + HEAD, a);
     write_zeros(out, p + HEAD + TUPLE * d, 3 * (LIMIT - d));
 }
