@@ -1,15 +1,28 @@
-// Cases of document 01 that are run and compared: each line has a label and what came back, the answer's number and its count.
-mod books;
-mod inserts;
-mod new_names;
-mod say;
+// Cases of document 01 that are run and compared. The cases are lines of text on standard input; each is written again with
+// what came back, the answer's number and its count. A line is a word and what it asks for:
+//
+//   # TITLE                    a title
+//   slot NAME                  the check of a slot of line 7 with that name
+//   byte AT VALUE NAME         the same with one byte changed
+//   page NAME ..               the check of a page of these names
+//   log LINE NAME ..           the check of a log of these names, all with that line number
+//   cut BYTES                  the check of a page of so many of the bytes of 257 slots
+//   trim BYTES                 the check of a log of so many of the bytes of 257 slots
+//   find NAME NAME ..          the place of the first among the others: 0 and its slot, 1 and its gap
+//   insert ROOM NAME NAME ..   line 7 with the first name into a page of the others, lines 1, 2, ..; ROOM bytes of output
+//   remove ROOM NAME NAME ..   the slot of the first name out of a page of the others
+//   add N AT ROOM              insert of (9, 2, AT, 0) into a page of N slots (9, 2, 0, 0), (9, 2, 1, 0), ..
+//   drop N AT ROOM             remove of it
+//   new GAP NODE NAME ..       a new name by the author (NODE, 11) in a page of these names
+//
+// A name is written as the listing shows it.
+mod asked;
+mod text;
+
+use libc::STDIN_FILENO;
 
 fn main() {
-    books::slot_cases();
-    books::name_cases();
-    books::page_cases();
-    books::place_cases();
-    inserts::insert_cases();
-    inserts::remove_cases();
-    new_names::new_name_cases();
+    let mut script = [0u8; 16384];
+    let n = io::read_full(STDIN_FILENO, &mut script);
+    asked::run_all(&script[..n]);
 }

@@ -1,10 +1,10 @@
--- `cases::first` meets its contract. Assumes nothing.
+-- `cases::text::first` meets its contract. Assumes nothing.
 use mathlib.Core.Path.{sym}
 use denote.Ref.{now}
 use lib.Seq.{length-take-le}
 use borrow.Author.Needs.{needs}
-use Rattle.cases.proofs.books.first.Statement.{statement}
-use Rattle.cases.proofs.books.first.Tie as tie
+use Rattle.cases.proofs.text.first.Statement.{statement}
+use Rattle.cases.proofs.text.first.Tie as tie
 
 slice-aggregate-result : tie.Need-slice-aggregate-result
 slice-aggregate-result c = sym (length-take-le (c .before .before .args .n) (now (c .before .before .args .bytes)) (c .before .if1 .taken))

@@ -1,8 +1,8 @@
--- `cases::find` meets its contract. Assumes nothing.
+-- `cases::asked::find` meets its contract. Assumes nothing.
 use mathlib.Core.Path.{_∙_, sym}
 use borrow.Author.Needs.{needs}
-use Rattle.cases.proofs.books.find.Statement.{statement}
-use Rattle.cases.proofs.books.find.Tie as tie
+use Rattle.cases.proofs.asked.find.Statement.{statement}
+use Rattle.cases.proofs.asked.find.Tie as tie
 
 page-rises-requires : tie.Need-page-rises-requires
 page-rises-requires c κs = search needs
@@ -13,14 +13,14 @@ find-requires c κs = (search needs, sym (c .before .before .page-rises .ensures
 enum-known-k : tie.Need-enum-known-k
 enum-known-k c = search needs
 
-numbers-requires : tie.Need-numbers-requires
-numbers-requires c κs = search needs
+say-requires : tie.Need-say-requires
+say-requires c κs = search needs
 
 enum-known-k-2 : tie.Need-enum-known-k-2
 enum-known-k-2 c = search needs
 
-numbers-requires-2 : tie.Need-numbers-requires-2
-numbers-requires-2 c κs = search needs
+say-requires-2 : tie.Need-say-requires-2
+say-requires-2 c κs = search needs
 
 returns : tie.Need-returns
 returns c = search needs
@@ -38,9 +38,9 @@ find-spec =
     page-rises-requires
     find-requires
     enum-known-k
-    numbers-requires
+    say-requires
     enum-known-k-2
-    numbers-requires-2
+    say-requires-2
     returns
     returns-2
     returns-3)

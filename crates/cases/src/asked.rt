@@ -1,0 +1,233 @@
+// What the lines ask for.
+ghost use Prim.Native.Nat.{_*_, _≤_};
+ghost use lib.ListN.{length};
+ghost use Rattle.slots.specs.Slots.{slotSize};
+use crate::text::NAMES;
+use crate::text::after_word;
+use crate::text::answer;
+use crate::text::byte;
+use crate::text::first;
+use crate::text::line_end;
+use crate::text::number;
+use crate::text::put;
+use crate::text::put_all;
+use crate::text::say;
+use crate::text::show;
+use libc::STDOUT_FILENO;
+use pages::PAGE;
+use pages::Place;
+use slots::HEAD;
+use slots::SLOT;
+
+fn check(slot: &[u8; SLOT]) {
+    answer(pages::check_slot(slot));
+}
+
+fn slot_case(text: &[u8], at: usize) {
+    let mut slot = [0u8; SLOT];
+    put(&mut slot, 0, 7, text, at);
+    check(&slot);
+}
+
+fn byte_case(text: &[u8], at: usize) {
+    let place = number(text, at);
+    let value = number(text, place.next);
+    let mut slot = [0u8; SLOT];
+    put(&mut slot, 0, 7, text, value.next);
+    let i = place.value as usize;
+    if i < SLOT {
+        slot[i] = (value.value % 256) as u8;
+    }
+    check(&slot);
+}
+
+fn page_case(text: &[u8], at: usize) {
+    let mut page = [0u8; NAMES * SLOT];
+    let n = put_all(&mut page, text, at, true, 0);
+    answer(pages::check_page(first(&page, SLOT * n)));
+}
+
+fn log_case(text: &[u8], at: usize) {
+    let line = number(text, at);
+    let mut log = [0u8; NAMES * SLOT];
+    let n = put_all(&mut log, text, line.next, false, line.value);
+    answer(pages::check_log(first(&log, SLOT * n)));
+}
+
+// n slots named 9.2.0.0, 9.2.1.0, ..
+fn fill(page: &mut [u8], n: usize)
+    requires { ⌜ (slotSize * n ≤ length (now page)) × (n ≤ 257) ⌝ }
+{
+    let mut k: usize = 0;
+    while k < n {
+        put(page, SLOT * k, 0, b"9.2.0.0", 0);
+        slots::write_u32(page, SLOT * k + HEAD + 4, k as u32);
+        k += 1;
+    }
+}
+
+fn size_case(text: &[u8], at: usize, log: bool) {
+    let n = number(text, at);
+    let mut bytes = [0u8; 257 * SLOT];
+    fill(&mut bytes, 257);
+    sized(&bytes, n.value as usize, log);
+}
+
+fn sized(bytes: &[u8; 257 * SLOT], n: usize, log: bool) {
+    if log {
+        answer(pages::check_log(first(bytes, n)));
+    } else {
+        answer(pages::check_page(first(bytes, n)));
+    }
+}
+
+fn find(page: &[u8], slot: &[u8; SLOT]) {
+    if pages::page_rises(page) {
+        match pages::find(page, slot) {
+            Place::Here(k) => say(0, k as u64),
+            Place::Gap(k) => say(1, k as u64),
+        }
+    }
+}
+
+fn find_case(text: &[u8], at: usize) {
+    let mut slot = [0u8; SLOT];
+    let next = put(&mut slot, 0, 0, text, at);
+    let mut page = [0u8; NAMES * SLOT];
+    let n = put_all(&mut page, text, next, true, 0);
+    find(first(&page, SLOT * n), &slot);
+}
+
+// An edit; a page that it wrote is shown.
+fn edit(insert: bool, page: &[u8], slot: &[u8], out: &mut [u8]) -> usize {
+    if insert {
+        let a = edits::insert(page, slot, out);
+        answer(a);
+        return pages::count(a);
+    }
+    let a = edits::remove(page, slot, out);
+    answer(a);
+    pages::count(a)
+}
+
+fn edit_within(insert: bool, page: &[u8], slot: &[u8], out: &mut [u8], room: usize) -> usize {
+    if room <= out.len() {
+        return edit(insert, page, slot, &mut out[..room]);
+    }
+    edit(insert, page, slot, out)
+}
+
+fn edit_case(text: &[u8], at: usize, insert: bool) {
+    let room = number(text, at);
+    let mut slot = [0u8; SLOT];
+    let next = put(&mut slot, 0, 7, text, room.next);
+    let mut page = [0u8; NAMES * SLOT];
+    let n = put_all(&mut page, text, next, true, 0);
+    let mut out = [170u8; NAMES * SLOT];
+    let count = edit_within(
+        insert,
+        first(&page, SLOT * n),
+        &slot,
+        &mut out,
+        room.value as usize,
+    );
+    if 0 < count {
+        if count <= NAMES {
+            show(first(&out, SLOT * count));
+        }
+    }
+}
+
+fn many_case(text: &[u8], at: usize, insert: bool) {
+    let n = number(text, at);
+    let sequence = number(text, n.next);
+    let room = number(text, sequence.next);
+    let lines = n.value as usize;
+    if lines <= 256 {
+        let mut page = [0u8; PAGE];
+        fill(&mut page, lines);
+        let mut slot = [0u8; SLOT];
+        put(&mut slot, 0, 7, b"9.2.0.0", 0);
+        slots::write_u32(&mut slot, HEAD + 4, sequence.value);
+        let mut out = [170u8; PAGE];
+        edit_within(
+            insert,
+            first(&page, SLOT * lines),
+            &slot,
+            &mut out,
+            room.value as usize,
+        );
+    }
+}
+
+fn new_case(text: &[u8], at: usize) {
+    let gap = number(text, at);
+    let node = number(text, gap.next);
+    let mut page = [0u8; NAMES * SLOT];
+    let n = put_all(&mut page, text, node.next, true, 0);
+    ask(
+        first(&page, SLOT * n),
+        gap.value as usize,
+        (node.value % 65536) as u16,
+    );
+}
+
+// The answer, and the name that was made, as the slot of line 0.
+fn ask(page: &[u8], gap: usize, node: u16) {
+    let made = gaps::new_name(page, gap, node, 11);
+    let a = made.answer;
+    let new = made.name;
+    answer(a);
+    if pages::number(a) == 0 {
+        let mut slot = [0u8; SLOT];
+        slots::write_slot(&mut slot, 0, 0, new);
+        show(&slot);
+    }
+}
+
+fn check_case(text: &[u8], at: usize, word: u8) {
+    match word {
+        b's' => slot_case(text, at),
+        b'b' => byte_case(text, at),
+        b'p' => page_case(text, at),
+        b'l' => log_case(text, at),
+        b'c' => size_case(text, at, false),
+        _ => size_case(text, at, true),
+    }
+}
+
+fn call_case(text: &[u8], at: usize, word: u8) {
+    match word {
+        b'f' => find_case(text, at),
+        b'i' => edit_case(text, at, true),
+        b'r' => edit_case(text, at, false),
+        b'a' => many_case(text, at, true),
+        b'd' => many_case(text, at, false),
+        b'n' => new_case(text, at),
+        _ => check_case(text, at, word),
+    }
+}
+
+// A line: it is written, and what it asks for is done.
+fn run(text: &[u8], at: usize, end: usize) {
+    if at <= end {
+        if end <= text.len() {
+            io::write_all(STDOUT_FILENO, &text[at..end]);
+            let word = byte(text, at);
+            if word == b'#' {
+                io::write_all(STDOUT_FILENO, b"\n");
+            } else {
+                call_case(text, after_word(text, at), word);
+            }
+        }
+    }
+}
+
+pub(crate) fn run_all(text: &[u8]) {
+    let mut at: usize = 0;
+    while at < text.len() {
+        let end = line_end(text, at);
+        run(text, at, end);
+        at = end + 1;
+    }
+}
