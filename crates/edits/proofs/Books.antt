@@ -12,7 +12,7 @@ use lib.ListN.{length, length-map}
 use Rattle.names.specs.declared.Order.{Order}
 use Rattle.names.specs.declared.Order.the-variants.{Same}
 use Rattle.names.specs.Ordering.{Row, compareRows, isLess, isSame, _<ⁿ_, Rising, none, one, more}
-use Rattle.names.proofs.Laws.{Tri, below as isBelow, level, above, triN, row-less, row-more, row-same, rising-Rising, Rising-rising, and-0, and-1}
+use Rattle.names.proofs.Laws.{Tri, below as isBelow, level, above, triN, row-less, row-more, row-same, rising-Rising, and-0, and-1}
 use Rattle.slots.specs.Bytes.{Bytes, every}
 use Rattle.slots.specs.Slots.{Slot, nameOf, slotOf, keepsSlot, slotBytes, isSlot}
 use Rattle.slots.proofs.Numbers.{Octets}
@@ -24,7 +24,7 @@ use Rattle.pages.specs.declared.Answer.the-variants.{Accepted, Refused}
 use Rattle.pages.specs.declared.Refusal.{Refusal}
 use Rattle.pages.specs.declared.Refusal.the-variants.{BadLayout, NotRising, Short, Present, Absent, Full}
 use Rattle.pages.proofs.Parts.{length-slots}
-use Rattle.pages.proofs.RoundTrip.{laid, page-back, slots-back, encoded-layout, page-slots}
+use Rattle.pages.proofs.RoundTrip.{laid, page-back, slots-back, page-slots, written-page}
 use Rattle.edits.specs.Edits.{placed, without, askEdit, insertion, removal}
 use Rattle.edits.proofs.Placed.{Over, over-none, over-more, rising-over, tail-rising, placed-over, without-over}
 use Rattle.edits.proofs.Edited.{Passed}
@@ -219,10 +219,6 @@ removes page slot room n e =
         }
 
 -- ── a page stays a page ──
-
--- slots written one after the other, with rising names, are a page
-written-page : (l : List Slot) → every isSlot l ≡ true → length l ≤ maxSlots → Rising (map nameIn l) → (keepsLayout (flatten (pieces l)) ≡ true) × (rises (flatten (pieces l)) ≡ true)
-written-page l e h r = (encoded-layout l e h, Rising-rising (rw (← slots-back l e) at r))
 
 module _ (page slot : Bytes) (po : Octets page) (so : Octets slot) (room n : ℕ) where
   pub insert-page : insertion page slot room .answer ≡ Accepted n → (keepsLayout (insertion page slot room .bytes) ≡ true) × (rises (insertion page slot room .bytes) ≡ true)

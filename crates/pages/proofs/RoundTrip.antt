@@ -1,5 +1,6 @@
 -- A page's bytes and the list of its slots: `page-back`, the bytes of the slots of a page are the page; `slots-back`, the slots
--- of the bytes of at most 256 slots are these slots, and the bytes keep the layout (`encoded-layout`). Assumes nothing.
+-- of the bytes of at most 256 slots are these slots, and the bytes keep the layout (`encoded-layout`); with rising names they are a page
+-- (`written-page`). Assumes nothing.
 use mathlib.Core.Path.{_≡_, refl, _∙_, ap}
 use mathlib.Core.List.{List, [], _∷_, _++_, map, flatten}
 use mathlib.Core.Bool.{true, _&&_}
@@ -10,12 +11,13 @@ use borrow.Author.Tests.{eq-eqb, le-leb, eqb-true, leb-true}
 use lib.Dec.{eqb, leb}
 use lib.ListN.{length, take, drop, length-append, length-drop, length-take, take-append-drop, List·getD-eq-default}
 use lib.Seq.{getD-take, getD-drop, take-at, drop-at}
-use Rattle.names.proofs.Laws.{and-0, and-1}
+use Rattle.names.specs.Ordering.{Rising}
+use Rattle.names.proofs.Laws.{and-0, and-1, Rising-rising}
 use Rattle.slots.specs.Bytes.{Bytes, every}
 use Rattle.slots.specs.Slots.{Slot, slotSize, slotOf, keepsSlot, slotBytes, isSlot}
 use Rattle.slots.proofs.Numbers.{Octets}
 use Rattle.slots.proofs.RoundTrip.{kept, bytes-back, decoded-slot, slot-back, encoded-length, encoded-keeps}
-use Rattle.pages.specs.Pages.{maxSlots, parts, partsOf, slotsOf, pieces, keepsLayout}
+use Rattle.pages.specs.Pages.{maxSlots, parts, partsOf, slotsOf, nameIn, pieces, keepsLayout, rises}
 
 -- ── parts of bytes ──
 
@@ -137,3 +139,7 @@ module _ (l : List Slot) (e : every isSlot l ≡ true) where
       let z : length (flatten (pieces l)) % slotSize ≡ 0 = omega arith in
       let f : length (flatten (pieces l)) / slotSize ≤ maxSlots = omega (arith, many) in
       λ i. eq-eqb (length (flatten (pieces l)) % slotSize) 0 z i && le-leb (length (flatten (pieces l)) / slotSize) maxSlots f i && (ap (every keepsSlot) parts-are ∙ keeps l e) i
+
+-- slots written one after the other, with rising names, are a page
+pub written-page : (l : List Slot) → every isSlot l ≡ true → length l ≤ maxSlots → Rising (map nameIn l) → (keepsLayout (flatten (pieces l)) ≡ true) × (rises (flatten (pieces l)) ≡ true)
+written-page l e h r = (encoded-layout l e h, Rising-rising (rw (← slots-back l e) at r))
