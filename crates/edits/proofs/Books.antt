@@ -12,7 +12,7 @@ use lib.ListN.{length, length-map}
 use Rattle.names.specs.declared.Order.{Order}
 use Rattle.names.specs.declared.Order.the-variants.{Same}
 use Rattle.names.specs.Ordering.{Row, compareRows, isLess, isSame, _<ⁿ_, Rising, none, one, more}
-use Rattle.names.proofs.Laws.{Tri, below as isBelow, level, above, triN, row-less, row-more, row-same, rising-Rising, and-0, and-1}
+use Rattle.names.proofs.Laws.{tail-rising, yes-no, Tri, below as isBelow, level, above, triN, row-less, row-more, row-same, rising-Rising, and-0, and-1}
 use Rattle.slots.specs.Bytes.{Bytes, every}
 use Rattle.slots.specs.Slots.{Slot, nameOf, slotOf, keepsSlot, slotBytes, isSlot}
 use Rattle.slots.proofs.Numbers.{Octets}
@@ -26,19 +26,16 @@ use Rattle.pages.specs.declared.Refusal.the-variants.{BadLayout, NotRising, Sho
 use Rattle.pages.proofs.Parts.{length-slots}
 use Rattle.pages.proofs.RoundTrip.{laid, page-back, slots-back, page-slots, written-page}
 use Rattle.edits.specs.Edits.{placed, without, askEdit, insertion, removal}
-use Rattle.edits.proofs.Placed.{Over, over-none, over-more, rising-over, tail-rising, placed-over, without-over}
+use Rattle.edits.proofs.Placed.{Over, over-none, over-more, rising-over, placed-over, without-over}
 use Rattle.edits.proofs.Edited.{Passed}
 
 -- ── lists of slots ──
-
-clash : {A : Type 0} {b : Bool} → b ≡ true → b ≡ false → A
-clash p q = absurd (let z : _≡_ {A = ℕ} 0 1 = cc in omega arith)
 
 absent-tail : (x : Slot) (y : Slot) (l : List Slot) (o : Order) → compareRows (y .name) (x .name) ≡ o → has (x .name) (map nameIn (y ∷ l)) ≡ false → (isSame o ≡ false) × (has (x .name) (map nameIn l) ≡ false)
 absent-tail x y l o q e = by (isSame o) (sym (ap (λ (p : Order). isSame p || has (x .name) (map nameIn l)) q) ∙ e)
   where
     by : (b : Bool) → b || has (x .name) (map nameIn l) ≡ false → (b ≡ false) × (has (x .name) (map nameIn l) ≡ false)
-    by true e = clash refl e
+    by true e = yes-no refl e
     by false e = (refl, e)
 
 -- before the first of a rising row
@@ -60,7 +57,7 @@ rising-placed x (y ∷ l) r e = by (compareRows (y .name) (x .name)) (triN (y .n
   where
     by : (o : Order) → Tri _<ⁿ_ (y .name) (x .name) o → compareRows (y .name) (x .name) ≡ o → (has (x .name) (map nameIn l) ≡ false → Rising (map nameIn (placed x l))) → Rising (map nameIn (placed x (y ∷ l)))
     by o (isBelow h) q f = rw (row-more h) (cons-rising (over-placed x l h (rising-over r)) (f (absent-tail x y l o q e .1)))
-    by o (level h) q f = clash (refl) (absent-tail x y l o q e .0)
+    by o (level h) q f = yes-no refl (absent-tail x y l o q e .0)
     by o (above h) q f = rw (row-less h) (more h r)
 
 over-without : {b : Row} (a : Row) (l : List Slot) → Over b (map nameIn l) → Over b (map nameIn (without a l))

@@ -8,8 +8,8 @@ use native.Mathlib.Omega.{arith}
 use lib.ListN.{length, take, drop}
 use Rattle.names.specs.declared.Order.{Order}
 use Rattle.names.specs.declared.Order.the-variants.{Same}
-use Rattle.names.specs.Ordering.{Row, compareRows, isLess, isSame, _<ⁿ_, Rising, none, one, more}
-use Rattle.names.proofs.Laws.{<ⁿ-trans, Tri, below as isBelow, level, above, triN, row-less, row-more, row-same}
+use Rattle.names.specs.Ordering.{Row, compareRows, isLess, isSame, _<ⁿ_, Rising, one, more}
+use Rattle.names.proofs.Laws.{tail-rising, yes-no, <ⁿ-trans, Tri, below as isBelow, level, above, triN, row-less, row-more, row-same}
 use Rattle.slots.specs.Slots.{Slot}
 use Rattle.pages.specs.Pages.{nameIn}
 use Rattle.pages.specs.declared.Place.the-variants.{Here, Gap}
@@ -31,10 +31,6 @@ pub rising-over : {a : Row} {l : List Row} → Rising (a ∷ l) → Over a l
 rising-over one = over-none
 rising-over (more h r) = over-more h (lift h (rising-over r))
 
-pub tail-rising : {a : Row} {l : List Row} → Rising (a ∷ l) → Rising l
-tail-rising one = none
-tail-rising (more h r) = r
-
 over-below : {a : Row} {l : List Row} → Over a l → below a l ≡ 0
 over-below over-none = refl
 over-below (over-more h o) = rw (row-more h) (over-below o)
@@ -42,9 +38,6 @@ over-below (over-more h o) = rw (row-more h) (over-below o)
 over-has : {a : Row} {l : List Row} → Over a l → has a l ≡ false
 over-has over-none = refl
 over-has (over-more h o) = rw (row-more h) (over-has o)
-
-yes-no : {A : Type 0} {b : Bool} → b ≡ true → b ≡ false → A
-yes-no p q = absurd (let z : _≡_ {A = ℕ} 0 1 = cc in omega arith)
 
 -- ── insert ──
 

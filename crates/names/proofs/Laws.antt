@@ -11,6 +11,7 @@ use native.Mathlib.Nat.{lt-trans}
 use native.Mathlib.Omega.{arith}
 use borrow.Author.Tests.{lt-ltb, le-ltb}
 use lib.IntN.{ℤ, pos, negsuc, predℤ}
+use lib.ListN.{length, getD}
 use Rattle.names.specs.declared.Tuple.{Tuple}
 use Rattle.names.specs.declared.Order.{Order}
 use Rattle.names.specs.declared.Order.the-variants.{Less, Same, More}
@@ -298,6 +299,9 @@ is-less Less e = refl
 is-less Same e = absurd (let z : _≡_ {A = ℕ} 0 1 = cc in omega arith)
 is-less More e = absurd (let z : _≡_ {A = ℕ} 0 1 = cc in omega arith)
 
+pub yes-no : {A : Type 0} {b : Bool} → b ≡ true → b ≡ false → A
+yes-no p q = absurd (let z : _≡_ {A = ℕ} 0 1 = cc in omega arith)
+
 pub rising-Rising : (l : List Row) → rising l ≡ true → Rising l
 unfolding rising
 rising-Rising [] e = none
@@ -310,3 +314,13 @@ unfolding rising
 Rising-rising none = refl
 Rising-rising one = refl
 Rising-rising (more h r) = rw (row-less h) (Rising-rising r)
+
+pub tail-rising : {a : Row} {l : List Row} → Rising (a ∷ l) → Rising l
+tail-rising one = none
+tail-rising (more h r) = r
+
+-- the first of a rising row is below each of the others
+pub head-below : {a : Row} {l : List Row} (k : ℕ) → Rising (a ∷ l) → k < length l → a <ⁿ getD l k []
+head-below k one h = absurd (omega arith)
+head-below zero (more h r) g = h
+head-below (suc k) (more h r) g = <ⁿ-trans h (head-below k r (omega arith))

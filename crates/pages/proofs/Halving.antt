@@ -8,27 +8,18 @@ use native.Mathlib.Nat.{not-suc-le-zero, le-of-suc-le-suc}
 use native.Mathlib.Omega.{arith}
 use lib.ListN.{length, getD}
 use Rattle.names.specs.declared.Order.{Order}
-use Rattle.names.specs.Ordering.{Row, compareRows, isLess, isSame, _<ⁿ_, Rising, none, one, more}
-use Rattle.names.proofs.Laws.{<ⁿ-trans, <ⁿ-irrefl, Tri, below as isBelow, level, above, triN, row-less, row-same}
+use Rattle.names.specs.Ordering.{Row, compareRows, isLess, isSame, _<ⁿ_, Rising}
+use Rattle.names.proofs.Laws.{head-below, tail-rising, <ⁿ-trans, <ⁿ-irrefl, Tri, below as isBelow, level, above, triN, row-less, row-same}
 use Rattle.pages.specs.declared.Place.the-variants.{Here, Gap}
 use Rattle.pages.specs.Places.{below, has, placeOf}
 
 -- ── names of a rising row, by their index ──
 
-head-below : {a : Row} {l : List Row} → Rising (a ∷ l) → (j : ℕ) → j < length l → a <ⁿ getD l j []
-head-below one j h = absurd (not-suc-le-zero h)
-head-below (more k r) zero h = k
-head-below (more k r) (suc j) h = <ⁿ-trans k (head-below r j (le-of-suc-le-suc h))
-
-rest : {a : Row} {l : List Row} → Rising (a ∷ l) → Rising l
-rest one = none
-rest (more k r) = r
-
 pub index-below : {l : List Row} → Rising l → (i j : ℕ) → i < j → j < length l → getD l i [] <ⁿ getD l j []
 index-below {l = []} r i j h k = absurd (not-suc-le-zero k)
 index-below {l = a ∷ l} r i zero h k = absurd (not-suc-le-zero h)
-index-below {l = a ∷ l} r zero (suc j) h k = head-below r j (le-of-suc-le-suc k)
-index-below {l = a ∷ l} r (suc i) (suc j) h k = index-below (rest r) i j (le-of-suc-le-suc h) (le-of-suc-le-suc k)
+index-below {l = a ∷ l} r zero (suc j) h k = head-below j r (le-of-suc-le-suc k)
+index-below {l = a ∷ l} r (suc i) (suc j) h k = index-below (tail-rising r) i j (le-of-suc-le-suc h) (le-of-suc-le-suc k)
 
 -- what is below a, or above it, at one place is so at those before, or after
 module _ {a : Row} {l : List Row} (r : Rising l) (m : ℕ) (h : m < length l) where

@@ -1,12 +1,10 @@
 -- Lists of names: what holds of every one of them (`All`), the k-th (`at`), and rising lists. A rising list stays rising under a
 -- map that keeps the order. Assumes nothing.
 use mathlib.Core.List.{List, [], _∷_, map}
-use Prim.Native.Nat.{ℕ, zero, suc, _<_}
-use native.Mathlib.Omega.{arith}
-use lib.ListN.{length, getD, drop}
+use Prim.Native.Nat.{ℕ, zero, suc}
+use lib.ListN.{getD, drop}
 use lib.Seq.{drop-nil}
 use Rattle.names.specs.Ordering.{Row, _<ⁿ_, Rising, none, one, more}
-use Rattle.names.proofs.Laws.{<ⁿ-trans}
 
 pub data All {A : Type 0} (P : A → Type 0) : List A → Type 0 where
   nil : All P []
@@ -34,12 +32,6 @@ rising-drop (suc k) (more h o) = rising-drop k o
 -- r(k)
 abbrev pub at : List Row → ℕ → Row
 at log k = getD log k []
-
--- the first is below each of the others
-pub rising-at : {r : Row} {l : List Row} (k : ℕ) → Rising (r ∷ l) → k < length l → r <ⁿ at l k
-rising-at k one h = absurd (omega arith)
-rising-at zero (more l o) h = l
-rising-at (suc k) (more l o) h = <ⁿ-trans l (rising-at k o (omega arith))
 
 pub rising-map : (f : Row → Row) {P : Row → Type 0} → ((a b : Row) → P a → P b → a <ⁿ b → f a <ⁿ f b) → {l : List Row} → All P l → Rising l → Rising (map f l)
 rising-map f h nil none = none

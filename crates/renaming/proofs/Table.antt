@@ -7,9 +7,9 @@ use native.Mathlib.Omega.{arith}
 use lib.ListN.{length, drop, length-drop}
 use lib.Seq.{drop-cons}
 use Rattle.names.specs.Ordering.{Row, _<ⁿ_, _≤ⁿ_, Rising}
-use Rattle.names.proofs.Laws.{row-more, row-same}
+use Rattle.names.proofs.Laws.{head-below, row-more, row-same}
 use Rattle.renaming.specs.Renaming.{Author, Case, keepBelow, putBelow, logged, between, putAbove, keepAbove, N, caseAbove, caseOf, become, rename, firstPosition}
-use Rattle.renaming.proofs.Lists.{at, rising-at, rising-drop}
+use Rattle.renaming.proofs.Lists.{at, rising-drop}
 use Rattle.renaming.proofs.Splits.{SplitN, isBelow, isLevel, isAbove, splitN, Half, half, isUnder, atLeast, if-below, if-not-below}
 
 module _ (p : ℕ) (author : Author) where
@@ -68,14 +68,14 @@ module _ (p : ℕ) (author : Author) where
   above-logged k [] j n o h e = absurd (omega arith)
   above-logged k (r ∷ rest) zero n o h e = let i : suc k ≡ n = omega arith in rw (row-same r) (ap logged i)
   above-logged k (r ∷ rest) (suc j) n o h e =
-      let a : r <ⁿ at rest j = rising-at j o (omega arith) in
+      let a : r <ⁿ at rest j = head-below j o (omega arith) in
       rw (row-more a) (above-logged (suc k) rest j n (rising-drop 1 o) (omega arith) (omega arith))
 
   pub case-logged : (r : Row) (rest : List Row) (k : ℕ) → Rising (r ∷ rest) → k < length (r ∷ rest) → caseOf p author (r ∷ rest) (at (r ∷ rest) k) ≡ logged k
   unfolding caseOf
   case-logged r rest zero o h = rw (row-same r)
   case-logged r rest (suc k) o h =
-      let a : r <ⁿ at rest k = rising-at k o (omega arith) in
+      let a : r <ⁿ at rest k = head-below k o (omega arith) in
       rw (row-more a) (above-logged 0 rest k (suc k) (rising-drop 1 o) (omega arith) (omega arith))
 
   -- ── depth ──

@@ -3,7 +3,7 @@
 -- Assumes nothing.
 use mathlib.Core.Path.{_≡_, refl, _∙_, sym, ap}
 use mathlib.Core.List.{List, [], _∷_, _++_, append-assoc}
-use mathlib.Core.Bool.{Bool, true, false, _&&_, _||_}
+use mathlib.Core.Bool.{true, _&&_}
 use Prim.Native.Nat.{ℕ, zero, suc, _+_, _-_, _*_, _/_, _%_, _<_, _≤_}
 use native.Mathlib.Decide.{decLt}
 use native.Mathlib.Nat.{add-assoc}
@@ -14,11 +14,10 @@ use lib.Seq.{drop-cons, drop-drop, take-add, getD-append-add, drop-at}
 use lib.Dec.{leb, eqb}
 use lib.IntN.{ℤ, pos, negsuc}
 use Rattle.names.specs.declared.Tuple.{Tuple}
-use Rattle.names.specs.declared.Order.{Order}
-use Rattle.names.specs.declared.Order.the-variants.{Less, Same, More}
-use Rattle.names.specs.Ordering.{Row, compareTuples, isSame}
-use Rattle.names.specs.Names.{limit, fits, within, withinℤ, m, M, ordinaryFrom, ordinary, marker, endsWell, isName}
-use Rattle.names.proofs.Laws.{same-tuple, and-0, and-1}
+use Rattle.names.specs.Ordering.{Row, _<ᶻ_, up, across, down}
+use Rattle.names.specs.Names.{limit, fits, within, m, isName}
+use Rattle.names.proofs.Validity.{Ordinary, Middle, plain, marker-m, marker-M, Ends, final, onward, name-valid, valid-ends}
+use Rattle.names.proofs.Laws.{and-0, and-1}
 use Rattle.slots.specs.Bytes.{Bytes, at16, at32, signed, unsigned, tupleAt, tuplesAt, tupleSize, allZero, bytes16, bytes32, tupleBytes, rowBytes}
 use Rattle.slots.specs.Slots.{Slot, headSize, slotSize, depthOf, nameOf, lineOf, slotOf, keepsSlot, slotBytes, isSlot}
 use Rattle.slots.proofs.Numbers.{Octets, fits16, fits32, signed-pos, signed-neg}
@@ -233,57 +232,24 @@ row-back w (t ∷ a) r (more h g) =
     λ i. p i ∷ q i
 
 -- the offsets of a name are words
-at-most : (n b : ℕ) → leb n b ≡ true → b < 2147483648 → n < 2147483648
-at-most n b e h = omega (arith, leb-true n b e)
+word-between : {z : ℤ} → negsuc 1 <ᶻ z → z <ᶻ pos 2147483647 → Word z
+word-between across (up {a} k) = high {n = a} (omega arith)
+word-between (down {b = b} h) k = low {n = b} (omega arith)
 
-word-within : (least : ℕ) (z : ℤ) → withinℤ (negsuc least) (pos 2147483646) z ≡ true → least < 2147483648 → Word z
-word-within least (pos n) e h = high (at-most n 2147483646 e (omega arith))
-word-within least (negsuc n) e h = low (at-most n least (and-0 (leb n least) true e) h)
+ordinary-word : {t : Tuple} → Ordinary t → Word (t .offset)
+ordinary-word o = word-between (o .offset-min) (o .offset-max)
 
-word-from-zero : (z : ℤ) → withinℤ (pos 0) (pos 2147483646) z ≡ true → Word z
-word-from-zero (pos n) e = high (at-most n 2147483646 (and-1 (leb 0 n) (leb n 2147483646) e) (omega arith))
-word-from-zero (negsuc n) e = absurd (let z : _≡_ {A = ℕ} 0 1 = cc in omega arith)
+middle-word : {t : Tuple} → Middle t → Word (t .offset)
+middle-word (plain o) = ordinary-word o
+middle-word (marker-m e) = rw (ap (λ (w : Tuple). w .offset) (sym e)) at (high {n = 0} (omega arith))
+middle-word (marker-M e) = rw (ap (λ (w : Tuple). w .offset) (sym e)) at (high {n = 2147483647} (omega arith))
 
--- what is asked of an ordinary tuple before its offset
-abbrev front : Tuple → Bool
-front t = within 1 65534 (t .position) && within 1 65535 (t .node) && leb (t .sequence) 4294967295
-
-ordinary-word : (t : Tuple) → ordinary t ≡ true → Word (t .offset)
-unfolding ordinaryFrom
-ordinary-word t e = word-within 0 (t .offset) (and-1 (front t) (withinℤ (negsuc 0) (pos 2147483646) (t .offset)) e) (omega arith)
-
-last-word : (t : Tuple) → ordinaryFrom (pos 0) t ≡ true → Word (t .offset)
-unfolding ordinaryFrom
-last-word t e = word-from-zero (t .offset) (and-1 (front t) (withinℤ (pos 0) (pos 2147483646) (t .offset)) e)
-
-is-same : (o : Order) → isSame o ≡ true → o ≡ Same
-is-same Same e = refl
-is-same Less e = absurd (let z : _≡_ {A = ℕ} 0 1 = cc in omega arith)
-is-same More e = absurd (let z : _≡_ {A = ℕ} 0 1 = cc in omega arith)
-
-offset-of : (t u : Tuple) → isSame (compareTuples t u) ≡ true → u .offset ≡ t .offset
-offset-of t u e = ap (λ (w : Tuple). w .offset) (sym (same-tuple t u (is-same (compareTuples t u) e)))
-
-inner-word : (t : Tuple) → ordinary t || marker t ≡ true → Word (t .offset)
-unfolding marker
-inner-word t e = by (ordinary t) (isSame (compareTuples t m)) refl refl e
-  where
-    by : (a b : Bool) → ordinary t ≡ a → isSame (compareTuples t m) ≡ b → a || (b || isSame (compareTuples t M)) ≡ true → Word (t .offset)
-    by true b p q e = ordinary-word t p
-    by false true p q e = rw (offset-of t m q) at (high {n = 0} (omega arith))
-    by false false p q e = rw (offset-of t M e) at (high {n = 2147483647} (omega arith))
-
-ends-words : (a : Row) → endsWell a ≡ true → Words a
-unfolding endsWell
-ends-words [] e = none
-ends-words (t ∷ []) e = more (last-word t e) none
-ends-words (t ∷ u ∷ a) e =
-    more (inner-word t (and-0 (ordinary t || marker t) (endsWell (u ∷ a)) e)) (ends-words (u ∷ a) (and-1 (ordinary t || marker t) (endsWell (u ∷ a)) e))
+ends-words : {a : Row} → Ends a → Words a
+ends-words (final o h) = more (ordinary-word o) none
+ends-words (onward i e) = more (middle-word i) (ends-words e)
 
 pub name-words : (a : Row) → isName a ≡ true → Words a
-unfolding isName
-name-words [] e = none
-name-words (t ∷ a) e = ends-words (t ∷ a) (and-1 (ordinary t) (endsWell (t ∷ a)) e)
+name-words a e = ends-words (valid-ends (name-valid a e))
 
 name-long : (a : Row) → isName a ≡ true → 1 ≤ length a
 unfolding isName

@@ -98,9 +98,6 @@ signed-is o w h e = elim (decLt o 2147483648) [
 
 -- the two pieces that a tuple is read in
 module _ (s : Bytes) (p : ℕ) (k : Octets s) (p' n' q' o' : ℕ) (hn : n' < 65536) (hq : q' < 4294967296) (ho : o' < 2147483648) where
-  front : ℕ
-  front = (p' * 65536 + n') * 4294967296 + q'
-
   mark : isSame (compareTuples (tupleAt s p) (record { position = p'; node = n'; sequence = q'; offset = pos o' })) ≡ eqb (at64 s p) ((p' * 65536 + n') * 4294967296 + q') && eqb (at32 s (p + 8)) o'
   unfolding tupleAt
   mark =
