@@ -13,9 +13,8 @@ use Rattle.names.specs.declared.Order.{Order}
 use Rattle.names.specs.declared.Order.the-variants.{Same}
 use Rattle.names.specs.Ordering.{Row, compareRows, isLess, isSame, _<ⁿ_, Rising, none, one, more}
 use Rattle.names.proofs.Laws.{tail-rising, yes-no, Tri, below as isBelow, level, above, triN, row-less, row-more, row-same, rising-Rising, and-0, and-1}
-use Rattle.slots.specs.Bytes.{Bytes, every}
+use Rattle.slots.specs.Bytes.{Bytes, Octets, every}
 use Rattle.slots.specs.Slots.{Slot, nameOf, slotOf, keepsSlot, slotBytes, isSlot}
-use Rattle.slots.proofs.Numbers.{Octets}
 use Rattle.slots.proofs.RoundTrip.{kept, decoded-slot}
 use Rattle.pages.specs.Answers.{Outcome, ask, refuse, accept, write}
 use Rattle.pages.specs.Pages.{maxSlots, slotsOf, nameIn, namesOf, pieces, keepsLayout, rises}

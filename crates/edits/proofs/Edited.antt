@@ -7,9 +7,8 @@ use native.Mathlib.Omega.{arith}
 use borrow.Author.Tests.{lt-ltb, le-ltb, le-leb, lt-leb}
 use lib.ListN.{length, take, drop, length-append, length-take, length-drop, length-map}
 use Rattle.names.proofs.Laws.{rising-Rising}
-use Rattle.slots.specs.Bytes.{Bytes, put}
+use Rattle.slots.specs.Bytes.{Bytes, Octets, put}
 use Rattle.slots.specs.Slots.{Slot, slotSize, nameOf, slotOf, keepsSlot, slotBytes}
-use Rattle.slots.proofs.Numbers.{Octets}
 use Rattle.slots.proofs.RoundTrip.{kept}
 use Rattle.pages.specs.Answers.{Outcome, ask, refuse, write, leaves}
 use Rattle.pages.specs.Pages.{maxSlots, slotsOf, namesOf, pieces, keepsLayout, rises}

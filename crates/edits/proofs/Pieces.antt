@@ -7,9 +7,8 @@ use native.Mathlib.Nat.{not-suc-le-zero, le-of-suc-le-suc}
 use native.Mathlib.Omega.{arith}
 use lib.ListN.{length, take, drop, length-drop}
 use lib.Seq.{drop-drop, take-add}
-use Rattle.slots.specs.Bytes.{Bytes}
+use Rattle.slots.specs.Bytes.{Bytes, Octets}
 use Rattle.slots.specs.Slots.{slotSize, slotOf, keepsSlot, slotBytes}
-use Rattle.slots.proofs.Numbers.{Octets}
 use Rattle.slots.proofs.RoundTrip.{kept, bytes-back}
 use Rattle.pages.specs.Pages.{parts, slotsOf, pieces, keepsLayout}
 use Rattle.pages.proofs.RoundTrip.{flat, flat-none, flat-all, pieces-are, laid}

@@ -9,9 +9,9 @@ use lib.ListN.{length, take, drop, length-append}
 use lib.IntN.{ℤ, pos, negsuc, natAbs}
 use Rattle.names.specs.declared.Tuple.{Tuple}
 use Rattle.names.specs.Names.{limit}
-use Rattle.slots.specs.Bytes.{Bytes, at32, signed, tupleAt, tuplesAt, tupleSize}
+use Rattle.slots.specs.Bytes.{Bytes, Octets, at32, signed, tupleAt, tuplesAt, tupleSize}
 use Rattle.slots.specs.Slots.{headSize, slotSize, depthOf, lineOf, slotOf}
-use Rattle.slots.proofs.Numbers.{Octets, fits16, fits32, signed-pos, signed-neg}
+use Rattle.slots.proofs.Numbers.{fits16, fits32, signed-pos, signed-neg}
 use Rattle.pages.specs.Pages.{parts, slotsOf, keepsLayout}
 use Rattle.pages.proofs.RoundTrip.{octets-take, octets-drop, laid}
 use Rattle.listings.specs.Listing.{decimalℤ, tupleText, nameText, lineText, header, linesText, bookText, offsetRoom, tupleRoom, lineRoom, bookRoom}

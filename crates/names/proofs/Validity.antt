@@ -10,6 +10,7 @@ use lib.ListN.{length}
 use lib.IntN.{ℤ, pos, negsuc, predℤ}
 use lib.Signed.{leZ}
 use Rattle.names.specs.declared.Tuple.{Tuple}
+use Rattle.names.specs.declared.Author.{Author}
 use Rattle.names.specs.declared.Order.{Order}
 use Rattle.names.specs.declared.Order.the-variants.{Less, Same, More}
 use Rattle.names.specs.Ordering.{Row, compareTuples, isSame, _<ᶻ_, up, across, down}
@@ -40,6 +41,12 @@ pub data Ends : Row → Type 0 where
 -- "The first and last tuples are ordinary, the last has offset at least 0, and markers may stand only between."
 pub data Valid : Row → Type 0 where
   valid : {t : Tuple} {a : Row} → Ordinary t → Ends (t ∷ a) → Valid (t ∷ a)
+
+-- an author as a message has it: u16 and u32, "node at least 1"
+pub record Allowed (author : Author) : Type 0 where
+  pub node-min : 1 ≤ author .node
+  pub node-max : author .node ≤ 65535
+  pub sequence-max : author .sequence ≤ 4294967295
 
 -- ── from the tests ──
 

@@ -23,6 +23,12 @@ pub struct Name {
     pub tuples: [Tuple; LIMIT],
 }
 
+// "author (A, s)": whoever renames a book, or makes a name.
+pub struct Author {
+    pub node: u16,
+    pub sequence: u32,
+}
+
 pub enum Order {
     Less,
     Same,

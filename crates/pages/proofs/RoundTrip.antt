@@ -13,9 +13,8 @@ use lib.ListN.{length, take, drop, length-append, length-drop, length-take, take
 use lib.Seq.{getD-take, getD-drop, take-at, drop-at}
 use Rattle.names.specs.Ordering.{Rising}
 use Rattle.names.proofs.Laws.{and-0, and-1, Rising-rising}
-use Rattle.slots.specs.Bytes.{Bytes, every}
+use Rattle.slots.specs.Bytes.{Bytes, Octets, every}
 use Rattle.slots.specs.Slots.{Slot, slotSize, slotOf, keepsSlot, slotBytes, isSlot}
-use Rattle.slots.proofs.Numbers.{Octets}
 use Rattle.slots.proofs.RoundTrip.{kept, bytes-back, decoded-slot, slot-back, encoded-length, encoded-keeps}
 use Rattle.pages.specs.Pages.{maxSlots, parts, partsOf, slotsOf, nameIn, pieces, keepsLayout, rises}
 

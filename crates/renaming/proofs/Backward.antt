@@ -8,10 +8,11 @@ use native.Mathlib.Omega.{arith}
 use lib.IntN.{pos, negsuc}
 use lib.ListN.{length, drop}
 use lib.Seq.{drop-cons}
+use Rattle.names.specs.declared.Author.{Author}
 use Rattle.names.specs.declared.Tuple.{Tuple}
 use Rattle.names.specs.Ordering.{Row, _<ⁿ_, _≤ⁿ_, less, equal, Rising, more}
 use Rattle.names.proofs.Laws.{<ⁿ-trans, <≤-trans, ≤<-trans}
-use Rattle.renaming.specs.Renaming.{Author, lead, N, firstPosition, takeBack, tail, stripAbove, backFrom, backOf}
+use Rattle.renaming.specs.Renaming.{lead, N, firstPosition, takeBack, tail, stripAbove, backFrom, backOf}
 use Rattle.renaming.proofs.Splits.{Half, half, isUnder, atLeast, clash, same-head}
 use Rattle.renaming.proofs.Lists.{All, at, nil, cons, all-drop, rising-drop, rising-map}
 use Rattle.renaming.proofs.Walk.{Starts, starts, squeeze, squeeze-same, StaysBelow, StripBelow, keptBelow, cutBelow, strip-below, StaysAbove, StripAbove, keptAbove, cutAbove, strip-above, back-N, back-past, back-gap, back-end, back-low, back-high, back-at}

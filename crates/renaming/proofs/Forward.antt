@@ -6,11 +6,12 @@ use mathlib.Core.Logic.{_⊎_, inl, inr}
 use mathlib.Core.List.{List, [], _∷_, map}
 use Prim.Native.Nat.{ℕ, suc, _<_}
 use lib.IntN.{ℤ, pos, negsuc}
+use Rattle.names.specs.declared.Author.{Author}
 use Rattle.names.specs.declared.Order.{Order}
 use Rattle.names.specs.declared.Order.the-variants.{Less, Same, More}
 use Rattle.names.specs.Ordering.{Row, compareℕ, _<ᶻ_, across, position, node, sequence, offset, _<ⁿ_, ends, differ, same, Rising}
 use Rattle.names.proofs.Laws.{Tri, below, level, above, triℕ, <ⁿ-trans, <ⁿ-irrefl, <ᶻ-trans, row-less, row-more}
-use Rattle.renaming.specs.Renaming.{Author, Case, keepBelow, putBelow, logged, between, putAbove, keepAbove, lead, N, caseAbove, caseOf, become, Fresh, rename, firstPosition}
+use Rattle.renaming.specs.Renaming.{Case, keepBelow, putBelow, logged, between, putAbove, keepAbove, lead, N, caseAbove, caseOf, become, Fresh, rename, firstPosition}
 use Rattle.renaming.proofs.Splits.{SplitN, isBelow, isLevel, isAbove, splitN, clash, nonempty, next}
 use Rattle.renaming.proofs.Lists.{All, rising-map}
 

@@ -7,8 +7,9 @@ use Prim.Native.Nat.{ℕ}
 use native.Mathlib.Omega.{arith}
 use borrow.Author.Tests.{eqb-true, eq-eqb}
 use lib.Dec.{eqb}
+use Rattle.names.specs.declared.Author.{Author}
 use Rattle.names.specs.Ordering.{Row}
-use Rattle.renaming.specs.Renaming.{Author, fresh, Fresh}
+use Rattle.renaming.specs.Renaming.{fresh, Fresh}
 
 pub fresh-Fresh : (author : Author) (x : Row) → fresh author x ≡ true → Fresh author x
 unfolding fresh Fresh

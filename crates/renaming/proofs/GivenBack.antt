@@ -5,9 +5,10 @@ use mathlib.Core.List.{List, [], _∷_, map}
 use Prim.Native.Nat.{ℕ, suc}
 use native.Mathlib.Omega.{arith}
 use lib.IntN.{pos, negsuc}
+use Rattle.names.specs.declared.Author.{Author}
 use Rattle.names.specs.Ordering.{Row, across, down, offset, _<ⁿ_, differ, same}
 use Rattle.names.proofs.Laws.{row-less, row-more, row-same, tuple-same}
-use Rattle.renaming.specs.Renaming.{Author, Case, lead, N, caseOf, become, Fresh, rename, firstPosition, takeBack, stripBelow, stripAbove, backFrom, backOf}
+use Rattle.renaming.specs.Renaming.{Case, lead, N, caseOf, become, Fresh, rename, firstPosition, takeBack, stripBelow, stripAbove, backFrom, backOf}
 use Rattle.renaming.proofs.Splits.{clash, nonempty, next}
 use Rattle.renaming.proofs.Lists.{All, nil, cons}
 use Rattle.renaming.proofs.Forward.{BelowLeads, AboveLeads, PlaceAbove, inGap, atNext, past, lastPut, lastKept, Place, lowKept, lowPut, atFirst, higher, place, above-N}

@@ -6,9 +6,10 @@ use Prim.Native.Nat.{ℕ, zero, suc, _+_, _-_, _<_, _≤_}
 use native.Mathlib.Omega.{arith}
 use lib.ListN.{length, drop, length-drop}
 use lib.Seq.{drop-cons}
+use Rattle.names.specs.declared.Author.{Author}
 use Rattle.names.specs.Ordering.{Row, _<ⁿ_, _≤ⁿ_, Rising}
 use Rattle.names.proofs.Laws.{head-below, row-more, row-same}
-use Rattle.renaming.specs.Renaming.{Author, Case, keepBelow, putBelow, logged, between, putAbove, keepAbove, N, caseAbove, caseOf, become, rename, firstPosition}
+use Rattle.renaming.specs.Renaming.{Case, keepBelow, putBelow, logged, between, putAbove, keepAbove, N, caseAbove, caseOf, become, rename, firstPosition}
 use Rattle.renaming.proofs.Lists.{at, rising-drop}
 use Rattle.renaming.proofs.Splits.{SplitN, isBelow, isLevel, isAbove, splitN, Half, half, isUnder, atLeast, if-below, if-not-below}
 

@@ -6,22 +6,17 @@ use Prim.Native.Nat.{ℕ, suc, _+_, _≤_}
 use native.Mathlib.Omega.{arith}
 use lib.IntN.{ℤ, pos, negsuc}
 use lib.ListN.{length}
+use Rattle.names.specs.declared.Author.{Author}
 use Rattle.names.specs.declared.Tuple.{Tuple}
 use Rattle.names.specs.Ordering.{Row, _<ᶻ_, up, across, down, _<ⁿ_, ends, differ, _≤ⁿ_, less, equal}
 use Rattle.names.specs.Names.{m, M, oneBelow}
-use Rattle.names.proofs.Validity.{Ordinary, Middle, plain, marker-m, marker-M, Ends, final, onward, Valid, valid, valid-ends, ends-middle, lowered-ordinary}
-use Rattle.renaming.specs.Renaming.{Author, Case, keepBelow, putBelow, logged, between, putAbove, keepAbove, lead, N, caseOf, become, rename, takeBack, under, over, tail, backBelow, backBetween, backAbove, backFrom, backOf}
+use Rattle.names.proofs.Validity.{Allowed, Ordinary, Middle, plain, marker-m, marker-M, Ends, final, onward, Valid, valid, valid-ends, ends-middle, lowered-ordinary}
+use Rattle.renaming.specs.Renaming.{Case, keepBelow, putBelow, logged, between, putAbove, keepAbove, lead, N, caseOf, become, rename, takeBack, under, over, tail, backBelow, backBetween, backAbove, backFrom, backOf}
 use Rattle.renaming.proofs.Splits.{Half, half, isUnder, atLeast, clash, no-nil, ≤-nonempty, same-head}
 use Rattle.renaming.proofs.Lists.{All, nil, cons, all-map}
 use Rattle.renaming.proofs.Table.{Says, case-says}
 use Rattle.renaming.proofs.Gaps.{ordinary-inner, under-in, under-out, over-in, over-out}
 use Rattle.renaming.proofs.Walk.{Starts, starts, squeeze, StripBelow, keptBelow, cutBelow, strip-below, StripAbove, keptAbove, cutAbove, strip-above, back-N, back-past, back-gap, back-end, back-low, back-high}
-
--- an author as a message has it: u16 and u32, "node at least 1"
-pub record Allowed (author : Author) : Type 0 where
-  pub node-min : 1 ≤ author .node
-  pub node-max : author .node ≤ 65535
-  pub sequence-max : author .sequence ≤ 4294967295
 
 -- ── (p, A, s, z) ──
 

@@ -9,11 +9,12 @@ use native.Mathlib.Omega.{arith}
 use lib.IntN.{pos, negsuc}
 use lib.ListN.{length, drop, drop-of-length-le}
 use lib.Seq.{drop-cons}
+use Rattle.names.specs.declared.Author.{Author}
 use Rattle.names.specs.declared.Tuple.{Tuple}
 use Rattle.names.specs.Ordering.{Row, offset, _<ᵗ_, _<ⁿ_, differ, same, _≤ⁿ_, less, equal}
 use Rattle.names.specs.Names.{lowered}
 use Rattle.names.proofs.Laws.{<ᵗ-trans, <ᵗ-irrefl, row-less, row-more, row-same, lowered-next, <≤-trans}
-use Rattle.renaming.specs.Renaming.{Author, lead, N, tail, stripBelow, stripAbove, backBelow, backBetween, backAbove, backFrom, backOf}
+use Rattle.renaming.specs.Renaming.{lead, N, tail, stripBelow, stripAbove, backBelow, backBetween, backAbove, backFrom, backOf}
 use Rattle.renaming.proofs.Lists.{at}
 use Rattle.renaming.proofs.Splits.{SplitT, isBelow, isLevel, isAbove, splitT, Half, half, isUnder, atLeast, if-below, if-not-below, if-above, no-nil, next}
 

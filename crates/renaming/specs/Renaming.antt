@@ -8,6 +8,7 @@ use mathlib.Core.Bool.{Bool, true, _&&_, not}
 use lib.Dec.{eqb}
 use lib.IntN.{ℤ, pos, negsuc}
 use Rattle.names.specs.declared.Tuple.{Tuple}
+use Rattle.names.specs.declared.Author.{Author}
 use Rattle.names.specs.declared.Order.{Order}
 use Rattle.names.specs.declared.Order.the-variants.{Less, Same, More}
 use Rattle.names.specs.Ordering.{Row, compareTuples, compareRows}
@@ -33,12 +34,7 @@ ifAbove x y a b = choose (compareRows x y) b b a
 abbrev pub ifSame : {A : Type 0} → Tuple → Tuple → A → A → A
 ifSame s t a b = choose (compareTuples s t) b a b
 
--- ── the author and the log ──
-
--- "author (A, s)"
-pub record Author : Type 0 where
-  pub node : ℕ
-  pub sequence : ℕ
+-- ── the log ──
 
 -- "p = position of r0's first tuple"
 abbrev pub firstPosition : List Row → ℕ

@@ -3,9 +3,10 @@ use Prim.Native.Nat.{ℕ}
 use mathlib.Core.Path.{_≡_}
 use mathlib.Core.List.{List, [], _∷_, _++_}
 use lib.IntN.{ℤ, pos, negsuc}
+use Rattle.names.specs.declared.Author.{Author}
 use Rattle.names.specs.Ordering.{Row}
 use Rattle.names.specs.Names.{m, M}
-use Rattle.renaming.specs.Renaming.{Author, rename, takeBack}
+use Rattle.renaming.specs.Renaming.{rename, takeBack}
 
 -- the name (p, n, s, o)
 abbrev pub one : ℕ → ℕ → ℕ → ℤ → Row

@@ -5,11 +5,7 @@ use native.Mathlib.Omega.{arith}
 use borrow.Author.Tests.{lt-ltb, le-ltb}
 use lib.ListN.{getD}
 use lib.IntN.{pos, negsuc}
-use Rattle.slots.specs.Bytes.{Bytes, at16, at32, signed}
-
--- every element is a byte
-abbrev pub Octets : Bytes → Type 0
-Octets s = (i : ℕ) → getD s i 0 < 256
+use Rattle.slots.specs.Bytes.{Bytes, Octets, at16, at32, signed}
 
 pub fits16 : (s : Bytes) (p : ℕ) → Octets s → at16 s p < 65536
 fits16 s p k = omega (arith, k p, k (p + 1))

@@ -18,9 +18,9 @@ use Rattle.names.specs.Ordering.{Row, _<ᶻ_, up, across, down}
 use Rattle.names.specs.Names.{limit, fits, within, m, isName}
 use Rattle.names.proofs.Validity.{Ordinary, Middle, plain, marker-m, marker-M, Ends, final, onward, name-valid, valid-ends}
 use Rattle.names.proofs.Laws.{and-0, and-1}
-use Rattle.slots.specs.Bytes.{Bytes, at16, at32, signed, unsigned, tupleAt, tuplesAt, tupleSize, allZero, bytes16, bytes32, tupleBytes, rowBytes}
+use Rattle.slots.specs.Bytes.{Bytes, Octets, at16, at32, signed, unsigned, tupleAt, tuplesAt, tupleSize, allZero, bytes16, bytes32, tupleBytes, rowBytes}
 use Rattle.slots.specs.Slots.{Slot, headSize, slotSize, depthOf, nameOf, lineOf, slotOf, keepsSlot, slotBytes, isSlot}
-use Rattle.slots.proofs.Numbers.{Octets, fits16, fits32, signed-pos, signed-neg}
+use Rattle.slots.proofs.Numbers.{fits16, fits32, signed-pos, signed-neg}
 use Rattle.slots.proofs.Rows.{length-tuplesAt, take-tuplesAt}
 use Rattle.slots.proofs.Inside.{name-is}
 use Rattle.slots.proofs.Written.{tuple-length, row-length}

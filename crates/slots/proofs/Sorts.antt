@@ -12,8 +12,8 @@ use Rattle.names.specs.declared.Order.{Order}
 use Rattle.names.specs.Ordering.{compareTuples, isSame, _<ᵗ_}
 use Rattle.names.specs.Names.{withinℤ, ordinaryFrom, ordinary, marker}
 use Rattle.names.proofs.Laws.{Tri, below, level, above, triT, <ᵗ-irrefl, tuple-≡, and-0, and-1}
-use Rattle.slots.specs.Bytes.{Bytes, at16, at32, at64, signed, tupleAt}
-use Rattle.slots.proofs.Numbers.{Octets, fits16, fits32, signed-pos, signed-neg}
+use Rattle.slots.specs.Bytes.{Bytes, Octets, at16, at32, at64, signed, tupleAt}
+use Rattle.slots.proofs.Numbers.{fits16, fits32, signed-pos, signed-neg}
 
 -- ── ordinary tuples ──
 

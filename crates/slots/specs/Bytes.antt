@@ -1,5 +1,5 @@
 -- Numbers and tuples as bytes: document 01, "Pages, logs, epochs". "All numbers are big-endian, offsets in two's complement."
-use Prim.Native.Nat.{ℕ, zero, suc, _+_, _-_, _*_, _/_, _%_}
+use Prim.Native.Nat.{ℕ, zero, suc, _+_, _-_, _*_, _/_, _%_, _<_}
 use mathlib.Core.List.{List, [], _∷_, _++_}
 use mathlib.Core.Bool.{Bool, true, cond, _&&_}
 use lib.ListN.{length, getD, take, drop}
@@ -10,6 +10,10 @@ use Rattle.names.specs.Ordering.{Row}
 
 abbrev pub Bytes : Type 0
 Bytes = List ℕ
+
+-- every element is a byte
+abbrev pub Octets : Bytes → Type 0
+Octets s = (i : ℕ) → getD s i 0 < 256
 
 -- ── from bytes ──
 
