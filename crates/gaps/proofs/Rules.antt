@@ -1,18 +1,16 @@
 -- The rule for new names, way by way, as the code takes it. Assumes nothing.
-use mathlib.Core.Path.{_≡_, refl, ap, subst}
+use mathlib.Core.Path.{_≡_, refl, subst}
 use mathlib.Core.Logic.{_⊎_, inl, inr}
 use mathlib.Core.List.{[], _∷_, _++_}
 use mathlib.Core.Option.{Option, none, some}
 use mathlib.Core.Bool.{Bool, true, false, cond}
-use Prim.Native.Nat.{ℕ, zero, suc, _+_, _-_, _/_, _<_, _≤_}
+use Prim.Native.Nat.{ℕ, _+_, _-_, _/_, _<_, _≤_}
 use native.Mathlib.Nat.{not-suc-le-zero}
 use native.Mathlib.Omega.{arith}
-use borrow.Author.Tests.{le-ltb, le-leb, lt-leb, eq-eqb, ne-eqb}
-use lib.IntN.{ℤ, pos, negsuc, predℤ, _-ℤ_}
+use borrow.Author.Tests.{le-leb, lt-leb, eq-eqb, ne-eqb}
 use lib.ListN.{length, getD, drop}
 use lib.Seq.{drop-cons}
-use lib.Signed.{leZ, nonNeg, mag}
-use lib.Dec.{leb·zero}
+use lib.Signed.{nonNeg}
 use Rattle.names.specs.declared.Tuple.{Tuple}
 use Rattle.names.specs.declared.Name.{Name}
 use Rattle.names.specs.Ordering.{Row, compareTuples, isSame}
@@ -26,25 +24,6 @@ Given x n o = (x ≡ answerName o .answer) × (n ≡ valueOf (answerName o .name
 
 pub given : (x : Answer) (n : Name) {o o' : Option Row} → o ≡ o' → Given x n o → Given x n o'
 given x n e p = subst (λ (o : Option Row). Given x n o) e p
-
--- ── an offset ──
-
-pub sign : (z : ℤ) → leZ (pos 0) z ≡ nonNeg z
-sign (pos n) = leb·zero n
-sign (negsuc n) = refl
-
-pub less-one : (z : ℤ) → nonNeg z ≡ true → z -ℤ pos 1 ≡ predℤ z
-less-one (pos zero) e = refl
-less-one (pos (suc n)) e =
-    let h : 1 ≤ suc n = omega arith in
-    let q : suc n - 1 ≡ n = omega arith in
-    simp (le-ltb (suc n) 1 h) (ap pos q)
-less-one (negsuc n) e = absurd (let z : _≡_ {A = ℕ} 0 1 = cc in omega arith)
-
-pub mag-less : (z : ℤ) (w : ℕ) → nonNeg z ≡ true → mag z < w → mag (predℤ z) < w
-mag-less (pos zero) w e h = h
-mag-less (pos (suc n)) w e h = omega arith
-mag-less (negsuc n) w e h = absurd (let z : _≡_ {A = ℕ} 0 1 = cc in omega arith)
 
 -- ── before b's first tuple after a ──
 

@@ -53,18 +53,11 @@ fn own(node: u16, sequence: u32, position: u16) -> Tuple
     }
 }
 
-// The name of one tuple.
-fn one(t: Tuple) -> Name
-    ensures { λ r. ⌜ r ≡ valueOf (t ∷ []) ⌝ }
-{
-    names::push(names::empty(), t)
-}
-
 // The name of two tuples.
 fn two(s: Tuple, t: Tuple) -> Name
     ensures { λ r. ⌜ r ≡ valueOf (s ∷ t ∷ []) ⌝ }
 {
-    names::push(one(s), t)
+    names::push(names::one(s), t)
 }
 
 // a·b, or 6 where that has too many tuples.
@@ -136,46 +129,19 @@ fn is_prefix(a: Name, b: Name) -> bool
     }
 }
 
-fn not_below_zero(z: i32) -> bool
-    ensures { λ r. ⌜ r ≡ nonNeg z ⌝ }
-{
-    0 <= z
-}
-
-fn one_less(z: i32) -> i32
-    requires { ⌜ nonNeg z ≡ true ⌝ }
-    ensures { λ r. ⌜ r ≡ predℤ z ⌝ }
-{
-    z - 1
-}
-
-// "y one offset lower"
-fn one_lower(t: Tuple) -> Tuple
-    requires { ⌜ nonNeg (t .offset) ≡ true ⌝ }
-    ensures { λ r. ⌜ r ≡ lowered t ⌝ }
-{
-    let offset = one_less(t.offset);
-    Tuple {
-        position: t.position,
-        node: t.node,
-        sequence: t.sequence,
-        offset,
-    }
-}
-
 // "If y's position is 2 or more: a·(half that position rounded down, node, sequence, 0). If it is 1 and y's offset is at
 // least 0: a·(y one offset lower)·(32768, node, sequence, 0). Otherwise answer 12."
 fn before_tuple(a: Name, y: Tuple, node: u16, sequence: u32) -> NewName
     ensures { λ r. ⌜ (r .answer ≡ answerName (beforeTuple node sequence (rowOf a) y) .answer) × (r .name ≡ valueOf (answerName (beforeTuple node sequence (rowOf a) y) .name)) ⌝ }
 {
     if 2 <= y.position {
-        return extended(a, one(own(node, sequence, y.position / 2)));
+        return extended(a, names::one(own(node, sequence, y.position / 2)));
     }
     if y.position != 1 {
         return refused(Refusal::NoNewName);
     }
-    if not_below_zero(y.offset) {
-        extended(a, two(one_lower(y), own(node, sequence, MIDDLE)))
+    if names::not_below_zero(y.offset) {
+        extended(a, two(names::one_lower(y), own(node, sequence, MIDDLE)))
     } else {
         refused(Refusal::NoNewName)
     }
@@ -185,7 +151,7 @@ fn before_tuple(a: Name, y: Tuple, node: u16, sequence: u32) -> NewName
 fn right_after(a: Name, node: u16, sequence: u32) -> NewName
     ensures { λ r. ⌜ (r .answer ≡ answerName (some (rowOf a ++ (ownTuple node sequence 32768 ∷ []))) .answer) × (r .name ≡ valueOf (answerName (some (rowOf a ++ (ownTuple node sequence 32768 ∷ []))) .name)) ⌝ }
 {
-    extended(a, one(own(node, sequence, MIDDLE)))
+    extended(a, names::one(own(node, sequence, MIDDLE)))
 }
 
 // "2. Else if a is missing or a proper prefix of b, let y be b's first tuple after a."
@@ -211,26 +177,13 @@ fn new_between(a: Name, b: Name, node: u16, sequence: u32) -> NewName
     let low = first_before(a);
     let high = first_after(b);
     if low + 2 <= high {
-        let name = one(own(node, sequence, ((low + high) / 2) as u16));
+        let name = names::one(own(node, sequence, ((low + high) / 2) as u16));
         return NewName {
             answer: Answer::Accepted(0),
             name,
         };
     }
     close_by(a, b, node, sequence)
-}
-
-// The name of slot k, or none beyond the page.
-fn name_of(page: &[u8], k: usize) -> Name
-    ensures { λ r. ⌜ rowOf r ≡ getD (namesOf (now (page .entry))) k [] ⌝ }
-{
-    if k < page.len() / SLOT {
-        let at = SLOT * k;
-        let end = at + SLOT;
-        slots::read_name(&page[at..end])
-    } else {
-        names::empty()
-    }
 }
 
 // The name before a gap; before the first slot there is none.
@@ -240,7 +193,7 @@ fn name_before(page: &[u8], gap: usize) -> Name
     if gap < 1 {
         return names::empty();
     }
-    name_of(page, gap - 1)
+    pages::name_of(page, gap - 1)
 }
 
 // 1, 2, 4, 16, 12, 6; else a new name for the gap before slot `gap`, or after the last.
@@ -255,7 +208,12 @@ pub fn new_name(page: &[u8], gap: usize, node: u16, sequence: u32) -> NewName
             if page.len() / SLOT < gap {
                 return refused(Refusal::NoGap);
             }
-            new_between(name_before(page, gap), name_of(page, gap), node, sequence)
+            new_between(
+                name_before(page, gap),
+                pages::name_of(page, gap),
+                node,
+                sequence,
+            )
         } else {
             refused(Refusal::NotRising)
         }

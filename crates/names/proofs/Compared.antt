@@ -1,6 +1,7 @@
--- What is left of a comparison: of two tuples by their fields, and of two names at index i. Assumes nothing.
-use mathlib.Core.Path.{_≡_, _∙_, sym}
-use mathlib.Core.List.{List}
+-- What is left of a comparison: of two tuples by their fields, of two names at index i, and of a name
+-- and one tuple. Assumes nothing.
+use mathlib.Core.Path.{_≡_, refl, _∙_, sym}
+use mathlib.Core.List.{List, [], _∷_}
 use Prim.Native.Nat.{ℕ, _+_, _<_, _≤_, min}
 use native.Mathlib.Decide.{decLe}
 use native.Mathlib.Numerals.{add-one}
@@ -10,7 +11,7 @@ use lib.Seq.{drop-cons, getD-take, length-take-le, take-all}
 use Rattle.names.specs.declared.Tuple.{Tuple}
 use Rattle.names.specs.declared.Order.{Order}
 use Rattle.names.specs.declared.Order.the-variants.{Less, Same, More}
-use Rattle.names.specs.Ordering.{compareℕ, compareℤ, then, compareTuples, compareRows}
+use Rattle.names.specs.Ordering.{Row, compareℕ, compareℤ, then, compareTuples, compareRows}
 
 pub tuple-by : (s t : Tuple) {p n q o y z r : Order} → p ≡ compareℕ (s .position) (t .position) → n ≡ compareℕ (s .node) (t .node) → q ≡ compareℕ (s .sequence) (t .sequence) → o ≡ compareℤ (s .offset) (t .offset) → z ≡ then q o → y ≡ then n z → r ≡ then p y → r ≡ compareTuples s t
 unfolding compareTuples
@@ -66,3 +67,27 @@ take-min n k xs e =
       | yes h ↦ let q : min n k ≡ n = omega arith in rw q
       | no h ↦ take-all (min n k) xs (omega arith) ∙ sym (take-all n xs (omega arith))
     ]
+
+-- ── against one tuple ──
+
+pub to-none : (a : Row) (t : Tuple) → length a < 1 → Less ≡ compareRows a (t ∷ [])
+unfolding compareRows
+to-none [] t h = refl
+to-none (s ∷ a) t h = absurd (omega arith)
+
+pub to-one : (a : Row) (t d : Tuple) {o : Order} → o ≡ compareTuples (getD a 0 d) t → 1 ≤ length a → then o (compareRows (drop 1 a) []) ≡ compareRows a (t ∷ [])
+unfolding compareRows
+to-one [] t d e h = absurd (omega arith)
+to-one (s ∷ a) t d e h = rw e
+
+pub after-same : (a : Row) → length a < 2 → Same ≡ compareRows (drop 1 a) []
+unfolding compareRows
+after-same [] h = refl
+after-same (s ∷ []) h = refl
+after-same (s ∷ u ∷ a) h = absurd (omega arith)
+
+pub after-more : (a : Row) → 2 ≤ length a → More ≡ compareRows (drop 1 a) []
+unfolding compareRows
+after-more [] h = absurd (omega arith)
+after-more (s ∷ []) h = absurd (omega arith)
+after-more (s ∷ u ∷ a) h = refl

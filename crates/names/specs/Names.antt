@@ -1,5 +1,6 @@
 -- Tuples and names: document 01, "Names".
 use Prim.Native.Nat.{ℕ, _-_}
+use mathlib.Core.Path.{_≡_}
 use mathlib.Core.List.{[], _∷_, _++_}
 use mathlib.Core.Bool.{Bool, false, cond, _&&_, _||_}
 use lib.ListN.{length, take, replicate}
@@ -8,6 +9,7 @@ use lib.IntN.{ℤ, pos, negsuc, predℤ}
 use lib.Signed.{leZ}
 use Rattle.names.specs.declared.Tuple.{Tuple}
 use Rattle.names.specs.declared.Name.{Name}
+use Rattle.names.specs.declared.Joined.{Joined}
 use Rattle.names.specs.Ordering.{Row, compareTuples, isSame}
 
 -- "A name is a row of at most eight tuples": the limit is asked apart from the rest, since a result may pass it.
@@ -64,9 +66,17 @@ isName (t ∷ a) = ordinary t && endsWell (t ∷ a)
 abbrev pub valueOf : Row → Name
 valueOf a = record { depth = length a; tuples = a ++ replicate (limit - length a) m }
 
--- "a·b means the tuples of a, then those of b": where they pass the limit there is no name
+-- a row of at most `limit` tuples; of a longer one there is no name
+abbrev pub fitted : Row → Row
+fitted a = cond (fits a) a []
+
+-- "a·b means the tuples of a, then those of b"
 abbrev pub joined : Row → Row → Row
-joined a b = cond (fits (a ++ b)) (a ++ b) []
+joined a b = fitted (a ++ b)
+
+-- what the code gives of a row: whether it has at most `limit` tuples, and the name where it has
+abbrev pub Gives : Joined → Row → Type 0
+Gives r a = (r .fits ≡ fits a) × (rowOf (r .name) ≡ fitted a)
 
 -- "'One below' a name is that name with its last offset less 1; offset 0 gives −1."
 abbrev pub lowered : Tuple → Tuple

@@ -1,9 +1,12 @@
 // Names of lines and their order. Document 01, "Names"; the definitions are in specs/.
 ghost use mathlib.Core.Path.{_≡_};
 ghost use mathlib.Core.List.{[], _∷_, _++_};
+ghost use mathlib.Core.Bool.{true};
 ghost use Prim.Native.Nat.{min, _+_, _≤_, _<_};
-ghost use lib.ListN.{length};
-ghost use Rattle.names.specs.Names.{limit, fits, rowOf, valueOf, joined};
+ghost use lib.ListN.{length, drop};
+ghost use lib.IntN.{predℤ};
+ghost use lib.Signed.{nonNeg};
+ghost use Rattle.names.specs.Names.{limit, fits, rowOf, valueOf, joined, lowered, oneBelow, isName, Gives};
 ghost use Rattle.names.specs.Ordering.{compareℕ, compareℤ, then, compareTuples, compareRows};
 
 // The most tuples that a name has.
@@ -124,6 +127,27 @@ pub fn compare(a: Name, b: Name) -> Order
     }
 }
 
+// A name compared with the name of one tuple.
+pub fn compare_to_one(a: Name, t: Tuple) -> Order
+    ensures { λ r. ⌜ r ≡ compareRows (rowOf a) (t ∷ []) ⌝ }
+{
+    let s = a.tuples;
+    let n = tuples_in(a);
+    if n < 1 {
+        return Order::Less;
+    }
+    match compare_tuples(s[0], t) {
+        Order::Less => Order::Less,
+        Order::Same => {
+            if n < 2 {
+                return Order::Same;
+            }
+            Order::More
+        }
+        Order::More => Order::More,
+    }
+}
+
 // The row of no tuples, zeros after it: no name, or a name that is missing.
 pub fn empty() -> Name
     ensures { λ r. ⌜ r ≡ valueOf [] ⌝ }
@@ -152,15 +176,22 @@ pub fn push(a: Name, t: Tuple) -> Name
     }
 }
 
-// The tuples of b after those of a, which has zeros after them.
-fn append(a: Name, b: Name) -> Name
-    requires { ⌜ (a ≡ valueOf (rowOf a)) × (length (rowOf a) + length (rowOf b) ≤ limit) ⌝ }
-    ensures { λ r. ⌜ r ≡ valueOf (rowOf a ++ rowOf b) ⌝ }
+// The name of one tuple.
+pub fn one(t: Tuple) -> Name
+    ensures { λ r. ⌜ r ≡ valueOf (t ∷ []) ⌝ }
+{
+    push(empty(), t)
+}
+
+// The tuples of b from number `from` on after those of a, which has zeros after them.
+fn append(a: Name, b: Name, from: usize) -> Name
+    requires { ⌜ (a ≡ valueOf (rowOf a)) × (from ≤ length (rowOf b)) × (length (rowOf a) + length (rowOf b) ≤ limit + from) ⌝ }
+    ensures { λ r. ⌜ r ≡ valueOf (rowOf a ++ drop from (rowOf b)) ⌝ }
 {
     let t = b.tuples;
     let n = tuples_in(b);
     let mut r = a;
-    let mut i: usize = 0;
+    let mut i = from;
     while i < n {
         r = push(r, t[i]);
         i += 1;
@@ -182,6 +213,64 @@ pub fn join(a: Name, b: Name) -> Joined
         let name = empty();
         return Joined { fits: false, name };
     }
-    let name = append(append(empty(), a), b);
+    let name = append(append(empty(), a, 0), b, 0);
     Joined { fits: true, name }
+}
+
+// a·t·b, with the tuple t between.
+pub fn join_by(a: Name, t: Tuple, b: Name) -> Joined
+    ensures { λ r. ⌜ Gives r (rowOf a ++ (t ∷ rowOf b)) ⌝ }
+{
+    if LIMIT <= tuples_in(a) + tuples_in(b) {
+        let name = empty();
+        return Joined { fits: false, name };
+    }
+    let name = append(push(append(empty(), a, 0), t), b, 0);
+    Joined { fits: true, name }
+}
+
+// The tuples after the first.
+pub fn tail(a: Name) -> Name
+    requires { ⌜ 1 ≤ length (rowOf a) ⌝ }
+    ensures { λ r. ⌜ r ≡ valueOf (drop 1 (rowOf a)) ⌝ }
+{
+    append(empty(), a, 1)
+}
+
+pub fn not_below_zero(z: i32) -> bool
+    ensures { λ r. ⌜ r ≡ nonNeg z ⌝ }
+{
+    0 <= z
+}
+
+fn one_less(z: i32) -> i32
+    requires { ⌜ nonNeg z ≡ true ⌝ }
+    ensures { λ r. ⌜ r ≡ predℤ z ⌝ }
+{
+    z - 1
+}
+
+// A tuple one offset lower.
+pub fn one_lower(t: Tuple) -> Tuple
+    requires { ⌜ nonNeg (t .offset) ≡ true ⌝ }
+    ensures { λ r. ⌜ r ≡ lowered t ⌝ }
+{
+    let offset = one_less(t.offset);
+    Tuple {
+        position: t.position,
+        node: t.node,
+        sequence: t.sequence,
+        offset,
+    }
+}
+
+// "'One below' a name is that name with its last offset less 1; offset 0 gives −1."
+pub fn one_below(a: Name) -> Name
+    requires { ⌜ isName (rowOf a) ≡ true ⌝ }
+    ensures { λ r. ⌜ rowOf r ≡ oneBelow (rowOf a) ⌝ }
+{
+    let mut tuples = a.tuples;
+    let n = tuples_in(a);
+    tuples[n - 1] = one_lower(tuples[n - 1]);
+    Name { depth: n, tuples }
 }

@@ -3,13 +3,16 @@
 ghost use mathlib.Core.Path.{_≡_};
 ghost use mathlib.Core.Bool.{Bool, true};
 ghost use Prim.Native.Nat.{_≤_, _+_};
-ghost use lib.ListN.{length};
+ghost use mathlib.Core.List.{[]};
+ghost use lib.ListN.{length, getD};
 ghost use Rattle.names.specs.Ordering.{compareRows};
+ghost use Rattle.names.specs.Names.{rowOf};
 ghost use Rattle.slots.specs.Bytes.{every, put};
 ghost use Rattle.slots.specs.Slots.{slotSize, nameOf, keepsSlot};
 ghost use Rattle.pages.specs.Answers.{refusalNumber, numberOf, countOf};
 ghost use Rattle.pages.specs.Pages.{partsOf, slotsOf, namesOf, rises, lineIsZero, keepsLayout, isLog, checkPage, checkLog, checkSlot};
 ghost use Rattle.pages.specs.Places.{placeOf};
+use names::Name;
 use names::Order;
 use slots::SLOT;
 
@@ -241,6 +244,19 @@ pub fn check_slot(slot: &[u8]) -> Answer
         Answer::Accepted(1)
     } else {
         Answer::Refused(Refusal::BadLayout)
+    }
+}
+
+// The name of slot k, or none beyond the page.
+pub fn name_of(page: &[u8], k: usize) -> Name
+    ensures { λ r. ⌜ rowOf r ≡ getD (namesOf (now (page .entry))) k [] ⌝ }
+{
+    if k < page.len() / SLOT {
+        let at = SLOT * k;
+        let end = at + SLOT;
+        slots::read_name(&page[at..end])
+    } else {
+        names::empty()
     }
 }
 

@@ -1,12 +1,12 @@
--- `gaps::not_below_zero` meets its contract. Assumes nothing.
+-- `names::not_below_zero` meets its contract. Assumes nothing.
 use mathlib.Core.Path.{_∙_, ap}
 use lib.IntN.{ℤ, pos}
 use lib.Signed.{leZ}
 use mir.Syntax.{w32}
 use mir.ValLaws.{toZ-ofZ}
-use Rattle.gaps.proofs.Rules.{sign}
-use Rattle.gaps.proofs.not_below_zero.Statement.{statement}
-use Rattle.gaps.proofs.not_below_zero.Tie as tie
+use Rattle.names.proofs.Signed.{sign}
+use Rattle.names.proofs.not_below_zero.Statement.{statement}
+use Rattle.names.proofs.not_below_zero.Tie as tie
 
 returns : tie.Need-returns
 returns c = ap (λ (x : ℤ). leZ (pos 0) x) (toZ-ofZ w32 (c .args .z) (c .fits .z)) ∙ sign (c .args .z)

@@ -1,14 +1,14 @@
--- `gaps::one` meets its contract. Assumes nothing.
+-- `names::one` meets its contract. Assumes nothing.
 use native.Mathlib.Omega.{arith}
 use mathlib.Core.Path.{ap, _∙_}
 use mathlib.Core.List.{[], _∷_, _++_}
 use lib.ListN.{length}
 use Rattle.names.specs.Ordering.{Row}
 use Rattle.names.specs.Names.{valueOf}
 use Rattle.names.proofs.Joins.{value-of, row-of}
 use borrow.Author.Needs.{needs}
-use Rattle.gaps.proofs.one.Statement.{statement}
-use Rattle.gaps.proofs.one.Tie as tie
+use Rattle.names.proofs.one.Statement.{statement}
+use Rattle.names.proofs.one.Tie as tie
 
 empty-requires : tie.Need-empty-requires
 empty-requires c κs = search needs

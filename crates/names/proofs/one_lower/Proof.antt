@@ -1,11 +1,11 @@
--- `gaps::one_lower` meets its contract. Assumes nothing.
+-- `names::one_lower` meets its contract. Assumes nothing.
 use mathlib.Core.Path.{ap, _∙_}
 use mir.Syntax.{w32}
 use mir.ValLaws.{toZ-ofZ}
 use lib.IntN.{predℤ}
 use borrow.Author.Needs.{needs}
-use Rattle.gaps.proofs.one_lower.Statement.{statement}
-use Rattle.gaps.proofs.one_lower.Tie as tie
+use Rattle.names.proofs.one_lower.Statement.{statement}
+use Rattle.names.proofs.one_lower.Tie as tie
 
 one-less-requires : tie.Need-one-less-requires
 one-less-requires c κs = search needs

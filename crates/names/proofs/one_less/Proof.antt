@@ -1,11 +1,11 @@
--- `gaps::one_less` meets its contract. Assumes nothing.
+-- `names::one_less` meets its contract. Assumes nothing.
 use Prim.Native.Nat.{_^_}
 use lib.IntN.{predℤ}
 use mir.Syntax.{w32}
 use mir.ValLaws.{toZ-ofZ}
-use Rattle.gaps.proofs.Rules.{less-one, mag-less}
-use Rattle.gaps.proofs.one_less.Statement.{statement}
-use Rattle.gaps.proofs.one_less.Tie as tie
+use Rattle.names.proofs.Signed.{less-one, mag-less}
+use Rattle.names.proofs.one_less.Statement.{statement}
+use Rattle.names.proofs.one_less.Tie as tie
 
 sub-result : tie.Need-sub-result
 sub-result c =

@@ -1,16 +1,16 @@
--- `gaps::name_of` meets its contract. Assumes nothing.
+-- `pages::name_of` meets its contract. Assumes nothing.
 use mathlib.Core.Path.{refl, _∙_, sym}
 use mathlib.Core.List.{[]}
 use Prim.Native.Nat.{_*_, _/_, _≤_}
 use denote.Ref.{now}
 use lib.ListN.{length, List·getD-eq-default}
 use Rattle.slots.specs.Slots.{slotSize}
 use Rattle.pages.specs.Pages.{namesOf}
 use Rattle.pages.proofs.Parts.{lent-name, length-names}
 use Rattle.names.proofs.Joins.{row-of}
 use borrow.Author.Needs.{needs}
-use Rattle.gaps.proofs.name_of.Statement.{statement}
-use Rattle.gaps.proofs.name_of.Tie as tie
+use Rattle.pages.proofs.name_of.Statement.{statement}
+use Rattle.pages.proofs.name_of.Tie as tie
 
 mul-at : tie.Need-mul-at
 mul-at c = search needs
