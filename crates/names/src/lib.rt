@@ -6,7 +6,7 @@ ghost use Prim.Native.Nat.{min, _+_, _≤_, _<_};
 ghost use lib.ListN.{length, drop};
 ghost use lib.IntN.{predℤ};
 ghost use lib.Signed.{nonNeg};
-ghost use Rattle.names.specs.Names.{limit, fits, rowOf, valueOf, joined, lowered, oneBelow, isName, Gives};
+ghost use Rattle.names.specs.Names.{limit, fits, rowOf, valueOf, joined, lowered, oneBelow, isName};
 ghost use Rattle.names.specs.Ordering.{compareℕ, compareℤ, then, compareTuples, compareRows};
 
 // The most tuples that a name has.
@@ -219,7 +219,7 @@ pub fn join(a: Name, b: Name) -> Joined
 
 // a·t·b, with the tuple t between.
 pub fn join_by(a: Name, t: Tuple, b: Name) -> Joined
-    ensures { λ r. ⌜ Gives r (rowOf a ++ (t ∷ rowOf b)) ⌝ }
+    ensures { λ r. ⌜ (r .fits ≡ fits (rowOf a ++ (t ∷ rowOf b))) × (r .name ≡ valueOf (joined (rowOf a) (t ∷ rowOf b))) ⌝ }
 {
     if LIMIT <= tuples_in(a) + tuples_in(b) {
         let name = empty();

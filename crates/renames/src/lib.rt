@@ -1,1 +1,155 @@
-// Renaming a book and taking a rename back. Document 01, "Renaming one name", "Taking it back" and "What comes back"; the definitions are in specs/.
+// Renaming a book and taking a rename back: of one name by value, and of a page. Document 01, "Renaming one name", "Taking it
+// back" and "What comes back"; the definitions are in specs/, and of one name in crates/renaming.
+ghost use mathlib.Core.Path.{_≡_};
+ghost use mathlib.Core.List.{_∷_};
+ghost use mathlib.Core.Bool.{true};
+ghost use Prim.Native.Nat.{_≤_, _<_};
+ghost use lib.IntN.{pos};
+ghost use Rattle.names.specs.Names.{rowOf, Gives};
+ghost use Rattle.pages.specs.Pages.{maxSlots, namesOf, rises, isLog};
+ghost use Rattle.pages.specs.Places.{below, placeOf};
+ghost use Rattle.renaming.specs.Renaming.{firstPosition, lead as leadTuple, N, caseOf, ifBelow, rename as renameRow};
+use names::Author;
+use names::Joined;
+use names::LIMIT;
+use names::Name;
+use names::Order;
+use names::Tuple;
+use pages::Answer;
+use pages::Place;
+use pages::Refusal;
+use renaming::Case;
+use slots::HEAD;
+use slots::SLOT;
+
+// "p = position of r0's first tuple"
+fn first_position(log: &[u8]) -> u16
+    requires { ⌜ isLog (now log) ≡ true ⌝ }
+    ensures { λ r. ⌜ r ≡ firstPosition (namesOf (now (log .entry))) ⌝ }
+{
+    slots::read_u16(log, HEAD)
+}
+
+// (p, A, s, z)
+fn lead(p: u16, author: Author, z: i32) -> Tuple
+    ensures { λ r. ⌜ r ≡ leadTuple p author z ⌝ }
+{
+    Tuple {
+        position: p,
+        node: author.node,
+        sequence: author.sequence,
+        offset: z,
+    }
+}
+
+// The tuple of N(k).
+fn numbered(p: u16, author: Author, k: usize) -> Tuple
+    requires { ⌜ k < maxSlots ⌝ }
+    ensures { λ r. ⌜ r ≡ leadTuple p author (pos k) ⌝ }
+{
+    lead(p, author, k as i32)
+}
+
+// A name as it stands.
+fn whole(x: Name) -> Joined
+    ensures { λ r. ⌜ Gives r (rowOf x) ⌝ }
+{
+    Joined {
+        fits: true,
+        name: x,
+    }
+}
+
+// The tuple t, then x.
+fn led(t: Tuple, x: Name) -> Joined
+    ensures { λ r. ⌜ Gives r (t ∷ rowOf x) ⌝ }
+{
+    names::join_by(names::empty(), t, x)
+}
+
+// "below r0 and below N(0)", or "below r0, otherwise".
+fn case_below(p: u16, author: Author, x: Name) -> Case
+    ensures { λ r. ⌜ r ≡ ifBelow (rowOf x) (N p author 0) Case.KeepBelow Case.PutBelow ⌝ }
+{
+    match names::compare_to_one(x, lead(p, author, 0)) {
+        Order::Less => Case::KeepBelow,
+        Order::Same => Case::PutBelow,
+        Order::More => Case::PutBelow,
+    }
+}
+
+// "above r(n−1) and below N(n−1)", or "above r(n−1), otherwise"; k is n − 1.
+fn case_above(p: u16, author: Author, k: usize, x: Name) -> Case
+    requires { ⌜ k < maxSlots ⌝ }
+    ensures { λ r. ⌜ r ≡ ifBelow (rowOf x) (N p author k) (Case.PutAbove k) Case.KeepAbove ⌝ }
+{
+    match names::compare_to_one(x, numbered(p, author, k)) {
+        Order::Less => Case::PutAbove(k),
+        Order::Same => Case::KeepAbove,
+        Order::More => Case::KeepAbove,
+    }
+}
+
+// The row of 01's table for x, which stands in the log at that place.
+fn case_at(log: &[u8], author: Author, place: Place, x: Name) -> Case
+    requires { ⌜ (isLog (now log) ≡ true) × (place ≡ placeOf (rowOf x) (namesOf (now log))) ⌝ }
+    ensures { λ r. ⌜ r ≡ caseOf (firstPosition (namesOf (now (log .entry)))) author (namesOf (now (log .entry))) (rowOf x) ⌝ }
+{
+    let p = first_position(log);
+    match place {
+        Place::Here(k) => Case::Logged(k),
+        Place::Gap(k) => {
+            if k < 1 {
+                return case_below(p, author, x);
+            }
+            if k < log.len() / SLOT {
+                return Case::Between(k - 1);
+            }
+            case_above(p, author, k - 1, x)
+        }
+    }
+}
+
+// What that row makes of x.
+fn renamed_by(log: &[u8], author: Author, case: Case, x: Name) -> Joined
+    requires { ⌜ (isLog (now log) ≡ true) × (case ≡ caseOf (firstPosition (namesOf (now log))) author (namesOf (now log)) (rowOf x)) ⌝ }
+    ensures { λ r. ⌜ Gives r (renameRow author (namesOf (now (log .entry))) (rowOf x)) ⌝ }
+{
+    let p = first_position(log);
+    match case {
+        Case::KeepBelow => whole(x),
+        Case::PutBelow => led(lead(p, author, -1), x),
+        Case::Logged(k) => whole(names::one(numbered(p, author, k))),
+        Case::Between(k) => led(numbered(p, author, k), x),
+        Case::PutAbove(k) => led(numbered(p, author, k), x),
+        Case::KeepAbove => whole(x),
+    }
+}
+
+// The place of x in a log of which j names are known to be below x, by a walk from there.
+fn place_from(log: &[u8], x: Name, j: usize) -> Place
+    requires { ⌜ (rises (now log) ≡ true) × (j ≤ below (rowOf x) (namesOf (now log))) ⌝ }
+    ensures { λ r. ⌜ r ≡ placeOf (rowOf x) (namesOf (now (log .entry))) ⌝ }
+{
+    let n = log.len() / SLOT;
+    let mut k = j;
+    loop {
+        if n <= k {
+            break Place::Gap(k);
+        }
+        match names::compare(pages::name_of(log, k), x) {
+            Order::Less => {}
+            Order::Same => break Place::Here(k),
+            Order::More => break Place::Gap(k),
+        }
+        k += 1;
+    }
+}
+
+// One name, renamed; it has more than LIMIT tuples where it does not fit.
+pub fn rename_name(log: &[u8], author: Author, x: Name) -> Joined
+    requires { ⌜ isLog (now log) ≡ true ⌝ }
+    ensures { λ r. ⌜ Gives r (renameRow author (namesOf (now (log .entry))) (rowOf x)) ⌝ }
+{
+    renamed_by(log, author, case_at(log, author, place_from(log, x, 0), x), x)
+}

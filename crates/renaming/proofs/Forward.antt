@@ -11,7 +11,9 @@ use Rattle.names.specs.declared.Order.{Order}
 use Rattle.names.specs.declared.Order.the-variants.{Less, Same, More}
 use Rattle.names.specs.Ordering.{Row, compareℕ, _<ᶻ_, across, position, node, sequence, offset, _<ⁿ_, ends, differ, same, Rising}
 use Rattle.names.proofs.Laws.{Tri, below, level, above, triℕ, <ⁿ-trans, <ⁿ-irrefl, <ᶻ-trans, row-less, row-more}
-use Rattle.renaming.specs.Renaming.{Case, keepBelow, putBelow, logged, between, putAbove, keepAbove, lead, N, caseAbove, caseOf, become, Fresh, rename, firstPosition}
+use Rattle.renaming.specs.declared.Case.{Case}
+use Rattle.renaming.specs.declared.Case.the-variants.{KeepBelow, PutBelow, Logged, Between, PutAbove, KeepAbove}
+use Rattle.renaming.specs.Renaming.{lead, N, caseAbove, caseOf, become, Fresh, rename, firstPosition}
 use Rattle.renaming.proofs.Splits.{SplitN, isBelow, isLevel, isAbove, splitN, clash, nonempty, next}
 use Rattle.renaming.proofs.Lists.{All, rising-map}
 
@@ -50,11 +52,11 @@ module _ (p : ℕ) (author : Author) where
   -- ── the case of a name above r(k), with what places it there; the list is what follows r(k) in the log ──
 
   pub data PlaceAbove : ℕ → List Row → Row → Case → Type 0 where
-    inGap : {k : ℕ} {r x : Row} {rest : List Row} → x <ⁿ r → PlaceAbove k (r ∷ rest) x (between k)
-    atNext : {k : ℕ} {r x : Row} {rest : List Row} → x ≡ r → PlaceAbove k (r ∷ rest) x (logged (suc k))
+    inGap : {k : ℕ} {r x : Row} {rest : List Row} → x <ⁿ r → PlaceAbove k (r ∷ rest) x (Between k)
+    atNext : {k : ℕ} {r x : Row} {rest : List Row} → x ≡ r → PlaceAbove k (r ∷ rest) x (Logged (suc k))
     past : {k : ℕ} {r x : Row} {rest : List Row} {c : Case} → r <ⁿ x → PlaceAbove (suc k) rest x c → PlaceAbove k (r ∷ rest) x c
-    lastPut : {k : ℕ} {x : Row} → BelowLeads x → PlaceAbove k [] x (putAbove k)
-    lastKept : {k : ℕ} {x : Row} → AboveLeads x → PlaceAbove k [] x keepAbove
+    lastPut : {k : ℕ} {x : Row} → BelowLeads x → PlaceAbove k [] x (PutAbove k)
+    lastKept : {k : ℕ} {x : Row} → AboveLeads x → PlaceAbove k [] x KeepAbove
 
   pub place-above : (k : ℕ) (rest : List Row) (x : Row) → Fresh author x → PlaceAbove k rest x (caseAbove p author k rest x)
   unfolding caseAbove
@@ -107,9 +109,9 @@ module _ (p : ℕ) (author : Author) where
   -- ── the case of any name, with what places it there ──
 
   pub data Place : List Row → Row → Case → Type 0 where
-    lowKept : {r x : Row} {rest : List Row} → x <ⁿ r → BelowLeads x → Place (r ∷ rest) x keepBelow
-    lowPut : {r x : Row} {rest : List Row} → x <ⁿ r → AboveLeads x → Place (r ∷ rest) x putBelow
-    atFirst : {r x : Row} {rest : List Row} → x ≡ r → Place (r ∷ rest) x (logged 0)
+    lowKept : {r x : Row} {rest : List Row} → x <ⁿ r → BelowLeads x → Place (r ∷ rest) x KeepBelow
+    lowPut : {r x : Row} {rest : List Row} → x <ⁿ r → AboveLeads x → Place (r ∷ rest) x PutBelow
+    atFirst : {r x : Row} {rest : List Row} → x ≡ r → Place (r ∷ rest) x (Logged 0)
     higher : {r x : Row} {rest : List Row} {c : Case} → r <ⁿ x → PlaceAbove 0 rest x c → Place (r ∷ rest) x c
 
   pub place : (r : Row) (rest : List Row) (x : Row) → Fresh author x → Place (r ∷ rest) x (caseOf p author (r ∷ rest) x)

@@ -9,19 +9,21 @@ use lib.Seq.{drop-cons}
 use Rattle.names.specs.declared.Author.{Author}
 use Rattle.names.specs.Ordering.{Row, _<ⁿ_, _≤ⁿ_, Rising}
 use Rattle.names.proofs.Laws.{head-below, row-more, row-same}
-use Rattle.renaming.specs.Renaming.{Case, keepBelow, putBelow, logged, between, putAbove, keepAbove, N, caseAbove, caseOf, become, rename, firstPosition}
+use Rattle.renaming.specs.declared.Case.{Case}
+use Rattle.renaming.specs.declared.Case.the-variants.{KeepBelow, PutBelow, Logged, Between, PutAbove, KeepAbove}
+use Rattle.renaming.specs.Renaming.{N, caseAbove, caseOf, become, rename, firstPosition}
 use Rattle.renaming.proofs.Lists.{at, rising-drop}
 use Rattle.renaming.proofs.Splits.{SplitN, isBelow, isLevel, isAbove, splitN, Half, half, isUnder, atLeast, if-below, if-not-below}
 
 module _ (p : ℕ) (author : Author) where
   -- the table's first column
   abbrev pub Says : List Row → Row → Case → Type 0
-  Says log x keepBelow = (x <ⁿ at log 0) × (x <ⁿ N p author 0)
-  Says log x putBelow = (x <ⁿ at log 0) × (N p author 0 ≤ⁿ x)
-  Says log x (logged k) = (k < length log) × (x ≡ at log k)
-  Says log x (between k) = (suc k < length log) × (at log k <ⁿ x) × (x <ⁿ at log (suc k))
-  Says log x (putAbove k) = (suc k ≡ length log) × (at log k <ⁿ x) × (x <ⁿ N p author k)
-  Says log x keepAbove = (at log (length log - 1) <ⁿ x) × (N p author (length log - 1) ≤ⁿ x)
+  Says log x KeepBelow = (x <ⁿ at log 0) × (x <ⁿ N p author 0)
+  Says log x PutBelow = (x <ⁿ at log 0) × (N p author 0 ≤ⁿ x)
+  Says log x (Logged k) = (k < length log) × (x ≡ at log k)
+  Says log x (Between k) = (suc k < length log) × (at log k <ⁿ x) × (x <ⁿ at log (suc k))
+  Says log x (PutAbove k) = (suc k ≡ length log) × (at log k <ⁿ x) × (x <ⁿ N p author k)
+  Says log x KeepAbove = (at log (length log - 1) <ⁿ x) × (N p author (length log - 1) ≤ⁿ x)
 
   says-above : (log : List Row) (x : Row) (k : ℕ) (rest : List Row) → drop (suc k) log ≡ rest → k < length log → at log k <ⁿ x → Says log x (caseAbove p author k rest x)
   unfolding caseAbove
@@ -64,15 +66,15 @@ module _ (p : ℕ) (author : Author) where
 
   -- ── the names of the log ──
 
-  above-logged : (k : ℕ) (rest : List Row) (j n : ℕ) → Rising rest → j < length rest → suc (k + j) ≡ n → caseAbove p author k rest (at rest j) ≡ logged n
+  above-logged : (k : ℕ) (rest : List Row) (j n : ℕ) → Rising rest → j < length rest → suc (k + j) ≡ n → caseAbove p author k rest (at rest j) ≡ Logged n
   unfolding caseAbove
   above-logged k [] j n o h e = absurd (omega arith)
-  above-logged k (r ∷ rest) zero n o h e = let i : suc k ≡ n = omega arith in rw (row-same r) (ap logged i)
+  above-logged k (r ∷ rest) zero n o h e = let i : suc k ≡ n = omega arith in rw (row-same r) (ap Logged i)
   above-logged k (r ∷ rest) (suc j) n o h e =
       let a : r <ⁿ at rest j = head-below j o (omega arith) in
       rw (row-more a) (above-logged (suc k) rest j n (rising-drop 1 o) (omega arith) (omega arith))
 
-  pub case-logged : (r : Row) (rest : List Row) (k : ℕ) → Rising (r ∷ rest) → k < length (r ∷ rest) → caseOf p author (r ∷ rest) (at (r ∷ rest) k) ≡ logged k
+  pub case-logged : (r : Row) (rest : List Row) (k : ℕ) → Rising (r ∷ rest) → k < length (r ∷ rest) → caseOf p author (r ∷ rest) (at (r ∷ rest) k) ≡ Logged k
   unfolding caseOf
   case-logged r rest zero o h = rw (row-same r)
   case-logged r rest (suc k) o h =
@@ -83,12 +85,12 @@ module _ (p : ℕ) (author : Author) where
 
   become-depth : (c : Case) (x : Row) → length (become p author c x) ≤ suc (length x)
   unfolding become
-  become-depth keepBelow x = omega arith
-  become-depth putBelow x = omega arith
-  become-depth (logged k) x = omega arith
-  become-depth (between k) x = omega arith
-  become-depth (putAbove k) x = omega arith
-  become-depth keepAbove x = omega arith
+  become-depth KeepBelow x = omega arith
+  become-depth PutBelow x = omega arith
+  become-depth (Logged k) x = omega arith
+  become-depth (Between k) x = omega arith
+  become-depth (PutAbove k) x = omega arith
+  become-depth KeepAbove x = omega arith
 
 -- "equal to r(k) | N(k)": the names of a rising log become N(0), N(1), ..
 pub rename-logged : (author : Author) (log : List Row) (k : ℕ) → Rising log → k < length log → rename author log (at log k) ≡ N (firstPosition log) author k

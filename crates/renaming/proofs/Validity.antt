@@ -11,7 +11,9 @@ use Rattle.names.specs.declared.Tuple.{Tuple}
 use Rattle.names.specs.Ordering.{Row, _<ᶻ_, up, across, down, _<ⁿ_, ends, differ, _≤ⁿ_, less, equal}
 use Rattle.names.specs.Names.{m, M, oneBelow}
 use Rattle.names.proofs.Validity.{Allowed, Ordinary, Middle, plain, marker-m, marker-M, Ends, final, onward, Valid, valid, valid-ends, ends-middle, lowered-ordinary}
-use Rattle.renaming.specs.Renaming.{Case, keepBelow, putBelow, logged, between, putAbove, keepAbove, lead, N, caseOf, become, rename, takeBack, under, over, tail, backBelow, backBetween, backAbove, backFrom, backOf}
+use Rattle.renaming.specs.declared.Case.{Case}
+use Rattle.renaming.specs.declared.Case.the-variants.{KeepBelow, PutBelow, Logged, Between, PutAbove, KeepAbove}
+use Rattle.renaming.specs.Renaming.{lead, N, caseOf, become, rename, takeBack, under, over, tail, backBelow, backBetween, backAbove, backFrom, backOf}
 use Rattle.renaming.proofs.Splits.{Half, half, isUnder, atLeast, clash, no-nil, ≤-nonempty, same-head}
 use Rattle.renaming.proofs.Lists.{All, nil, cons, all-map}
 use Rattle.renaming.proofs.Table.{Says, case-says}
@@ -37,12 +39,12 @@ module _ (p : ℕ) (author : Author) (p-min : 1 ≤ p) (p-max : p ≤ 65534) (a 
 
   become-valid : (log : List Row) (c : Case) (x : Row) → length log ≤ 2147483647 → Says p author log x c → Valid x → Valid (become p author c x)
   unfolding become
-  become-valid log keepBelow x b h v = v
-  become-valid log putBelow x b h v = put-valid (lead-ordinary (down {a = 1} {b = 0} (omega arith)) across) v
-  become-valid log (logged k) x b h v = N-valid (omega arith)
-  become-valid log (between k) x b h v = put-valid (N-ordinary (omega arith)) v
-  become-valid log (putAbove k) x b h v = put-valid (N-ordinary (omega arith)) v
-  become-valid log keepAbove x b h v = v
+  become-valid log KeepBelow x b h v = v
+  become-valid log PutBelow x b h v = put-valid (lead-ordinary (down {a = 1} {b = 0} (omega arith)) across) v
+  become-valid log (Logged k) x b h v = N-valid (omega arith)
+  become-valid log (Between k) x b h v = put-valid (N-ordinary (omega arith)) v
+  become-valid log (PutAbove k) x b h v = put-valid (N-ordinary (omega arith)) v
+  become-valid log KeepAbove x b h v = v
 
 pub rename-valid : (author : Author) (r : Row) (rest : List Row) (x : Row) → Allowed author → length (r ∷ rest) ≤ 2147483647 → Valid r → Valid x → Valid (rename author (r ∷ rest) x)
 unfolding rename

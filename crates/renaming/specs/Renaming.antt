@@ -11,6 +11,8 @@ use Rattle.names.specs.declared.Tuple.{Tuple}
 use Rattle.names.specs.declared.Author.{Author}
 use Rattle.names.specs.declared.Order.{Order}
 use Rattle.names.specs.declared.Order.the-variants.{Less, Same, More}
+use Rattle.renaming.specs.declared.Case.{Case}
+use Rattle.renaming.specs.declared.Case.the-variants.{KeepBelow, PutBelow, Logged, Between, PutAbove, KeepAbove}
 use Rattle.names.specs.Ordering.{Row, compareTuples, compareRows}
 use Rattle.names.specs.Names.{m, M, oneBelow}
 
@@ -44,22 +46,6 @@ firstPosition ((t ∷ r) ∷ log) = t .position
 
 -- ── renaming one name: 001, algorithm 1 and appendix B ──
 
--- The rows of 01's table "Name x | Becomes", in its order, those that say N(k) with their k.
-pub data Case : Type 0 where
-  -- | below r0 and below N(0) | x |
-  keepBelow : Case
-  -- | below r0, otherwise | (p, A, s, −1)·x |
-  putBelow : Case
-  -- | equal to r(k) | N(k) |
-  logged : ℕ → Case
-  -- | between r(k) and r(k+1) | N(k)·x |: k is the index of the name before x, where algorithm 1 has findIndex(id, ..) of an
-  -- id that is not in the log and means appendix A's findIndexOfPred
-  between : ℕ → Case
-  -- | above r(n−1) and below N(n−1) | N(n−1)·x |, with k = n − 1
-  putAbove : ℕ → Case
-  -- | above r(n−1), otherwise | x |
-  keepAbove : Case
-
 module _ (p : ℕ) (author : Author) where
   -- (p, A, s, z)
   abbrev pub lead : ℤ → Tuple
@@ -69,25 +55,26 @@ module _ (p : ℕ) (author : Author) where
   abbrev pub N : ℕ → Row
   N k = lead (pos k) ∷ []
 
+  -- The rows of 01's table are the type `Case` (src/lib.rt), one constructor a row, in the table's order.
   -- The case of a name x above r(k), by the rest of the log after r(k): x is below r(k+1), equal to it, or above it and so on;
   -- after the last name, where k = n − 1, it is below N(n−1) or not.
   unfoldable pub caseAbove : ℕ → List Row → Row → Case
-  caseAbove k [] x = ifBelow x (N k) (putAbove k) keepAbove
-  caseAbove k (r ∷ rest) x = choose (compareRows x r) (between k) (logged (suc k)) (caseAbove (suc k) rest x)
+  caseAbove k [] x = ifBelow x (N k) (PutAbove k) KeepAbove
+  caseAbove k (r ∷ rest) x = choose (compareRows x r) (Between k) (Logged (suc k)) (caseAbove (suc k) rest x)
 
   -- The case of a name x: it is below r0, equal to it, or above it. (A log has at least one name; with none, names stay.)
   unfoldable pub caseOf : List Row → Row → Case
-  caseOf [] x = keepBelow
-  caseOf (r ∷ rest) x = choose (compareRows x r) (ifBelow x (N 0) keepBelow putBelow) (logged 0) (caseAbove 0 rest x)
+  caseOf [] x = KeepBelow
+  caseOf (r ∷ rest) x = choose (compareRows x r) (ifBelow x (N 0) KeepBelow PutBelow) (Logged 0) (caseAbove 0 rest x)
 
   -- what a case makes of x: the second column of the table
   unfoldable pub become : Case → Row → Row
-  become keepBelow x = x
-  become putBelow x = lead (negsuc 0) ∷ x
-  become (logged k) x = N k
-  become (between k) x = N k ++ x
-  become (putAbove k) x = N k ++ x
-  become keepAbove x = x
+  become KeepBelow x = x
+  become PutBelow x = lead (negsuc 0) ∷ x
+  become (Logged k) x = N k
+  become (Between k) x = N k ++ x
+  become (PutAbove k) x = N k ++ x
+  become KeepAbove x = x
 
 -- renaming: what the case of x makes of x
 unfoldable pub rename : Author → List Row → Row → Row

@@ -34,7 +34,7 @@ returns c =
     let a = rowOf (x .a) in
     let b = x .t ∷ rowOf (x .b) in
     let h : limit < length a + length b = omega arith in
-    (joined-deep a b h, row-of [] (c .empty .ensures) ∙ joined-none a b h)
+    (joined-deep a b h, c .empty .ensures ∙ ap valueOf (joined-none a b h))
 
 empty-requires-2 : tie.Need-empty-requires-2
 empty-requires-2 c κs = search needs
@@ -67,7 +67,7 @@ returns-2 c =
     let e = first a (c .before .before .before .empty2 .ensures) (c .before .before .append .ensures) in
     let f = c .before .push .ensures ∙ ap (λ (r : Row). valueOf (r ++ (x .t ∷ []))) (row-of a e) in
     let g = c .append2 .ensures ∙ ap (λ (r : Row). valueOf (r ++ rowOf (x .b))) (row-of (a ++ (x .t ∷ [])) f) ∙ ap valueOf (append-assoc a (x .t ∷ []) (rowOf (x .b))) in
-    (joined-fits a b h, row-of (a ++ b) g ∙ joined-all a b h)
+    (joined-fits a b h, g ∙ ap valueOf (joined-all a b h))
 
 pub join-by-spec : {M : Type 1} → statement M
 join-by-spec =

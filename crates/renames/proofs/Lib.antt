@@ -1,0 +1,4 @@
+pub mod Logs
+pub mod Places
+pub mod Chosen
+pub mod Given

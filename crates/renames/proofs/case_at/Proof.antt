@@ -1,0 +1,100 @@
+-- `renames::case_at` meets its contract. Assumes nothing.
+use mathlib.Core.Path.{_≡_, _∙_, sym, ap}
+use Prim.Native.Nat.{ℕ, suc, _-_, _/_, _<_, _≤_}
+use native.Mathlib.Omega.{arith}
+use borrow.Author.Needs.{needs}
+use denote.Ref.{now}
+use lib.ListN.{length}
+use Rattle.names.specs.Names.{rowOf}
+use Rattle.slots.specs.Slots.{slotSize}
+use Rattle.pages.specs.declared.Place.the-variants.{Gap}
+use Rattle.pages.specs.Pages.{namesOf}
+use Rattle.pages.specs.Places.{placeOf}
+use Rattle.renaming.specs.declared.Case.{Case}
+use Rattle.renaming.specs.declared.Case.the-variants.{KeepBelow, PutBelow, Between, PutAbove, KeepAbove}
+use Rattle.renaming.specs.Renaming.{firstPosition, N, ifBelow}
+use Rattle.renames.proofs.Logs.{logged}
+use Rattle.renames.proofs.Places.{case-here, case-first, case-between, case-last}
+use Rattle.renames.proofs.case_at.Statement.{statement}
+use Rattle.renames.proofs.case_at.Tie as tie
+
+first-position-requires : tie.Need-first-position-requires
+first-position-requires c κs = search needs
+
+enum-known-place : tie.Need-enum-known-place
+enum-known-place c = search needs
+
+enum-known-place-2 : tie.Need-enum-known-place-2
+enum-known-place-2 c = search needs
+
+case-below-requires : tie.Need-case-below-requires
+case-below-requires c κs = search needs
+
+returns : tie.Need-returns
+returns c =
+    let a = c .before .before .before .before .before .before .before .args in
+    let s = now (a .log) in
+    let x = rowOf (a .x) in
+    let l = logged s (c .before .before .before .before .before .before .before .pre .0) in
+    let p = firstPosition (namesOf s) in
+    let k = c .before .before .before .place2 .given .0 .0 in
+    let z : k ≡ 0 = omega arith in
+    let e : placeOf x (namesOf s) ≡ Gap 0 = sym (c .before .before .before .before .before .before .before .pre .1) ∙ c .before .before .before .place2 .given .1 ∙ ap Gap z in
+    c .case-below .ensures ∙ ap (λ (q : ℕ). ifBelow x (N q (a .author) 0) KeepBelow PutBelow) (c .before .before .before .before .before .first-position .ensures) ∙ sym (case-first p (a .author) x (namesOf s) (l .rising) (l .some) e)
+
+returns-2 : tie.Need-returns-2
+returns-2 c =
+    let a = c .before .before .before .before .before .before .before .args in
+    let s = now (a .log) in
+    let x = rowOf (a .x) in
+    let l = logged s (c .before .before .before .before .before .before .before .pre .0) in
+    let k = c .before .before .before .place2 .given .0 .0 in
+    let z : k ≡ suc (k - 1) = omega arith in
+    let h : suc (k - 1) < length (namesOf s) = omega (arith, l .count) in
+    let e : placeOf x (namesOf s) ≡ Gap (suc (k - 1)) = sym (c .before .before .before .before .before .before .before .pre .1) ∙ c .before .before .before .place2 .given .1 ∙ ap Gap z in
+    sym (case-between (firstPosition (namesOf s)) (a .author) x (namesOf s) (k - 1) (l .rising) h e)
+
+case-above-requires : tie.Need-case-above-requires
+case-above-requires c κs =
+    let a = c .before .before .before .before .before .before .before .args in
+    let s = now (a .log) in
+    let l = logged s (c .before .before .before .before .before .before .before .pre .0) in
+    let k = c .before .before .before .place2 .given .0 .0 in
+    let z : k ≡ suc (k - 1) = omega arith in
+    let h : length (namesOf s) ≤ suc (k - 1) = omega (arith, l .count) in
+    let e : placeOf (rowOf (a .x)) (namesOf s) ≡ Gap (suc (k - 1)) = sym (c .before .before .before .before .before .before .before .pre .1) ∙ c .before .before .before .place2 .given .1 ∙ ap Gap z in
+    let n = case-last (firstPosition (namesOf s)) (a .author) (rowOf (a .x)) (namesOf s) (k - 1) (l .rising) h e .0 in
+    omega (arith, l .few)
+
+returns-3 : tie.Need-returns-3
+returns-3 c =
+    let a = c .before .before .before .before .before .args in
+    let s = now (a .log) in
+    sym (case-here (firstPosition (namesOf s)) (a .author) (rowOf (a .x)) (namesOf s) (c .before .place .given .0 .0) (logged s (c .before .before .before .before .before .pre .0) .rising) (sym (c .before .before .before .before .before .pre .1) ∙ c .before .place .given .1))
+
+returns-4 : tie.Need-returns-4
+returns-4 c =
+    let a = c .before .before .before .before .before .before .before .before .args in
+    let s = now (a .log) in
+    let x = rowOf (a .x) in
+    let l = logged s (c .before .before .before .before .before .before .before .before .pre .0) in
+    let p = firstPosition (namesOf s) in
+    let k = c .before .before .before .before .place2 .given .0 .0 in
+    let z : k ≡ suc (k - 1) = omega arith in
+    let h : length (namesOf s) ≤ suc (k - 1) = omega (arith, l .count) in
+    let e : placeOf x (namesOf s) ≡ Gap (suc (k - 1)) = sym (c .before .before .before .before .before .before .before .before .pre .1) ∙ c .before .before .before .before .place2 .given .1 ∙ ap Gap z in
+    c .case-above .ensures ∙ ap (λ (q : ℕ). ifBelow x (N q (a .author) (k - 1)) (PutAbove (k - 1)) KeepAbove) (c .before .before .before .before .before .before .first-position .ensures) ∙ sym (case-last p (a .author) x (namesOf s) (k - 1) (l .rising) h e .1)
+
+pub case-at-spec : {M : Type 1} → statement M
+case-at-spec =
+    tie.close
+    (tie.spec
+    first-position-requires
+    enum-known-place
+    enum-known-place-2
+    case-below-requires
+    returns
+    returns-2
+    case-above-requires
+    returns-3
+    returns-4)
