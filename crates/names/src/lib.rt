@@ -6,7 +6,7 @@ ghost use Prim.Native.Nat.{min, _+_, _≤_, _<_};
 ghost use lib.ListN.{length, drop};
 ghost use lib.IntN.{predℤ};
 ghost use lib.Signed.{nonNeg};
-ghost use Rattle.names.specs.Names.{limit, fits, rowOf, valueOf, joined, lowered, oneBelow, isName};
+ghost use Rattle.names.specs.Names.{limit, fits, rowOf, valueOf, joined, lowered, oneBelow, isName, m, M};
 ghost use Rattle.names.specs.Ordering.{compareℕ, compareℤ, then, compareTuples, compareRows};
 
 // The most tuples that a name has.
@@ -17,6 +17,30 @@ pub struct Tuple {
     pub node: u16,
     pub sequence: u32,
     pub offset: i32,
+}
+
+// "Two end markers exist": m, below every ordinary tuple ..
+pub fn low_marker() -> Tuple
+    ensures { λ r. ⌜ r ≡ m ⌝ }
+{
+    Tuple {
+        position: 0,
+        node: 0,
+        sequence: 0,
+        offset: 0,
+    }
+}
+
+// .. and M, above.
+pub fn high_marker() -> Tuple
+    ensures { λ r. ⌜ r ≡ M ⌝ }
+{
+    Tuple {
+        position: 65535,
+        node: 65535,
+        sequence: 4294967295,
+        offset: 2147483647,
+    }
 }
 
 // "A name is a row of at most eight tuples, passed as a whole": the first depth of the tuples are the name's. A depth
@@ -152,13 +176,7 @@ pub fn compare_to_one(a: Name, t: Tuple) -> Order
 pub fn empty() -> Name
     ensures { λ r. ⌜ r ≡ valueOf [] ⌝ }
 {
-    let zero = Tuple {
-        position: 0,
-        node: 0,
-        sequence: 0,
-        offset: 0,
-    };
-    let tuples = [zero; LIMIT];
+    let tuples = [low_marker(); LIMIT];
     Name { depth: 0, tuples }
 }
 

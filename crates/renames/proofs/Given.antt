@@ -1,6 +1,6 @@
 -- What the row of 01's table makes of a name, as `renamed_by` builds it. Assumes nothing.
 use mathlib.Core.Path.{_≡_, _∙_, sym, ap, subst}
-use mathlib.Core.List.{List, [], _∷_}
+use mathlib.Core.List.{List, [], _∷_, _++_}
 use Prim.Native.Nat.{ℕ, suc, _<_, _≤_}
 use native.Mathlib.Nat.{not-suc-le-zero}
 use native.Mathlib.Omega.{arith}
@@ -10,7 +10,8 @@ use Rattle.names.specs.declared.Author.{Author}
 use Rattle.names.specs.declared.Tuple.{Tuple}
 use Rattle.names.specs.declared.Joined.{Joined}
 use Rattle.names.specs.Ordering.{Row}
-use Rattle.names.specs.Names.{Gives}
+use Rattle.names.specs.Names.{fits, valueOf, joined, Gives}
+use Rattle.names.proofs.Joins.{row-of}
 use Rattle.renaming.specs.declared.Case.{Case}
 use Rattle.renaming.specs.declared.Case.the-variants.{Logged, Between, PutAbove}
 use Rattle.renaming.specs.Renaming.{firstPosition, lead, caseOf, become, rename}
@@ -45,3 +46,7 @@ module _ (p : ℕ) (author : Author) (log : List Row) (x : Row) (n : 1 ≤ lengt
 
   pub above-within : (k : ℕ) → c ≡ PutAbove k → k < length log
   above-within k f = let h = says f .0 in omega arith
+
+-- a·t·b, as `join_by` gives it
+pub joins : (r : Joined) {a a' : Row} {t u : Tuple} (b : Row) → a ≡ a' → t ≡ u → (r .fits ≡ fits (a ++ (t ∷ b))) × (r .name ≡ valueOf (joined a (t ∷ b))) → Gives r (a' ++ (u ∷ b))
+joins r {a} {t = t} b e f g = gives r (λ i. e i ++ (f i ∷ b)) (g .0, row-of (joined a (t ∷ b)) (g .1))

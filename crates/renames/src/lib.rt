@@ -1,14 +1,16 @@
 // Renaming a book and taking a rename back: of one name by value, and of a page. Document 01, "Renaming one name", "Taking it
 // back" and "What comes back"; the definitions are in specs/, and of one name in crates/renaming.
 ghost use mathlib.Core.Path.{_≡_};
-ghost use mathlib.Core.List.{_∷_};
+ghost use mathlib.Core.List.{[], _∷_, _++_};
 ghost use mathlib.Core.Bool.{true};
 ghost use Prim.Native.Nat.{_≤_, _<_};
 ghost use lib.IntN.{pos};
-ghost use Rattle.names.specs.Names.{rowOf, Gives};
+ghost use lib.ListN.{take};
+ghost use Rattle.names.specs.Ordering.{compareRows, isLess, isSame};
+ghost use Rattle.names.specs.Names.{rowOf, isName, oneBelow, Gives, m, M};
 ghost use Rattle.pages.specs.Pages.{maxSlots, namesOf, rises, isLog};
 ghost use Rattle.pages.specs.Places.{below, placeOf};
-ghost use Rattle.renaming.specs.Renaming.{firstPosition, lead as leadTuple, N, caseOf, ifBelow, rename as renameRow};
+ghost use Rattle.renaming.specs.Renaming.{firstPosition, lead as leadTuple, N, caseOf, ifBelow, rename as renameRow, under as underRow, over as overRow, backBetween};
 use names::Author;
 use names::Joined;
 use names::LIMIT;
@@ -152,4 +154,92 @@ pub fn rename_name(log: &[u8], author: Author, x: Name) -> Joined
     ensures { λ r. ⌜ Gives r (renameRow author (namesOf (now (log .entry))) (rowOf x)) ⌝ }
 {
     renamed_by(log, author, case_at(log, author, place_from(log, x, 0), x), x)
+}
+
+// A name is below the name of one tuple.
+fn is_below(a: Name, t: Tuple) -> bool
+    ensures { λ r. ⌜ r ≡ isLess (compareRows (rowOf a) (t ∷ [])) ⌝ }
+{
+    match names::compare_to_one(a, t) {
+        Order::Less => true,
+        Order::Same => false,
+        Order::More => false,
+    }
+}
+
+// A name is above the name of one tuple.
+fn is_above(a: Name, t: Tuple) -> bool
+    ensures { λ r. ⌜ r ≡ isLess (compareRows (t ∷ []) (rowOf a)) ⌝ }
+{
+    match names::compare_to_one(a, t) {
+        Order::Less => false,
+        Order::Same => false,
+        Order::More => true,
+    }
+}
+
+// A name begins with the tuple t.
+fn begins(a: Name, t: Tuple) -> bool
+    ensures { λ r. ⌜ r ≡ isSame (compareRows (take 1 (rowOf a)) (t ∷ [])) ⌝ }
+{
+    if names::tuples_in(a) < 1 {
+        return false;
+    }
+    let s = a.tuples;
+    match names::compare_tuples(s[0], t) {
+        Order::Less => false,
+        Order::Same => true,
+        Order::More => false,
+    }
+}
+
+// r·m·v
+fn behind(r: Name, v: Name) -> Joined
+    ensures { λ s. ⌜ Gives s (rowOf r ++ (m ∷ rowOf v)) ⌝ }
+{
+    names::join_by(r, names::low_marker(), v)
+}
+
+// "one below r0, then M, then v", with any name of the log for r0.
+fn ahead(r: Name, v: Name) -> Joined
+    requires { ⌜ isName (rowOf r) ≡ true ⌝ }
+    ensures { λ s. ⌜ Gives s (oneBelow (rowOf r) ++ (M ∷ rowOf v)) ⌝ }
+{
+    names::join_by(names::one_below(r), names::high_marker(), v)
+}
+
+// "If v is below r0 the result is v, else one below r0, then M, then v."
+fn under(r: Name, v: Name) -> Joined
+    requires { ⌜ isName (rowOf r) ≡ true ⌝ }
+    ensures { λ s. ⌜ Gives s (underRow (rowOf r) (rowOf v)) ⌝ }
+{
+    match names::compare(v, r) {
+        Order::Less => whole(v),
+        Order::Same => ahead(r, v),
+        Order::More => ahead(r, v),
+    }
+}
+
+// "If v is above r(n−1) the result is v, else r(n−1)·m·v."
+fn over(r: Name, v: Name) -> Joined
+    ensures { λ s. ⌜ Gives s (overRow (rowOf r) (rowOf v) (rowOf v)) ⌝ }
+{
+    match names::compare(v, r) {
+        Order::Less => behind(r, v),
+        Order::Same => behind(r, v),
+        Order::More => whole(v),
+    }
+}
+
+// "c between N(k) and N(k+1), so c = N(k)·t: if t is not above r(k), r(k)·m·t. If t is not below r(k+1), one below r(k+1), then M,
+// then t. Otherwise t." r is r(k), and q is r(k+1).
+fn between(r: Name, q: Name, t: Name) -> Joined
+    requires { ⌜ isName (rowOf q) ≡ true ⌝ }
+    ensures { λ s. ⌜ Gives s (backBetween (rowOf r) (rowOf q) (rowOf t)) ⌝ }
+{
+    match names::compare(t, r) {
+        Order::Less => behind(r, t),
+        Order::Same => behind(r, t),
+        Order::More => under(q, t),
+    }
 }
