@@ -1,29 +1,29 @@
 -- Insert and remove keep a page a page, and undo one another. Over lists of slots first, then over 01's outcomes:
 -- `insert-page`, `remove-page`, `insert-remove`, `remove-insert`. Assumes nothing.
 use mathlib.Core.Path.{_≡_, refl, _∙_, sym, ap}
-use mathlib.Core.List.{List, [], _∷_, flatten, map, List·Memᴰ as In, List·Memᴰ·not-nil, List·Memᴰ·cases-cons}
+use mathlib.Core.List.{List, [], _∷_, map, List·Memᴰ as In, List·Memᴰ·not-nil, List·Memᴰ·cases-cons}
 use mathlib.Core.Logic.{inl, inr}
 use mathlib.Core.Bool.{or-true, Bool, true, false, cond, not, _||_}
 use Prim.Native.Nat.{ℕ, suc, _<_, _≤_}
 use native.Mathlib.Omega.{arith}
-use borrow.Author.Tests.{ltb-true, leb-true, lt-ltb, le-leb}
-use lib.Dec.{leb, ltb}
-use lib.ListN.{length, length-map}
+use borrow.Author.Tests.{ltb-true, lt-ltb}
+use lib.Dec.{ltb}
+use lib.ListN.{length}
 use Rattle.names.specs.declared.Order.{Order}
 use Rattle.names.specs.declared.Order.the-variants.{Same}
 use Rattle.names.specs.Ordering.{Row, compareRows, isLess, isSame, _<ⁿ_, Rising, none, one, more}
 use Rattle.names.proofs.Laws.{tail-rising, yes-no, Tri, below as isBelow, level, above, triN, row-less, row-more, row-same, rising-Rising, and-0, and-1}
 use Rattle.slots.specs.Bytes.{Bytes, Octets, every}
-use Rattle.slots.specs.Slots.{Slot, nameOf, slotOf, keepsSlot, slotBytes, isSlot}
+use Rattle.slots.specs.Slots.{Slot, nameOf, slotOf, keepsSlot, isSlot}
 use Rattle.slots.proofs.RoundTrip.{kept, decoded-slot}
 use Rattle.pages.specs.Answers.{Outcome, ask, refuse, accept, write}
 use Rattle.pages.specs.Pages.{maxSlots, slotsOf, nameIn, namesOf, pieces, keepsLayout, rises}
 use Rattle.pages.specs.Places.{has}
-use Rattle.pages.specs.declared.Answer.the-variants.{Accepted, Refused}
-use Rattle.pages.specs.declared.Refusal.{Refusal}
-use Rattle.pages.specs.declared.Refusal.the-variants.{BadLayout, NotRising, Short, Present, Absent, Full}
+use Rattle.pages.specs.declared.Answer.the-variants.{Accepted}
+use Rattle.pages.specs.declared.Refusal.the-variants.{BadLayout, NotRising, Present, Absent, Full}
 use Rattle.pages.proofs.Parts.{length-slots}
-use Rattle.pages.proofs.RoundTrip.{laid, page-back, slots-back, page-slots, written-page}
+use Rattle.pages.proofs.Outcomes.{no-answer, write-accepted, page-again}
+use Rattle.pages.proofs.RoundTrip.{laid, slots-back, page-slots, written-page}
 use Rattle.edits.specs.Edits.{placed, without, askEdit, insertion, removal}
 use Rattle.edits.proofs.Placed.{Over, over-none, over-more, rising-over, placed-over, without-over}
 use Rattle.edits.proofs.Edited.{Passed}
@@ -145,9 +145,6 @@ placed-without x (y ∷ l) r m = elim (List·Memᴰ·cases-cons m) [
 
 -- ── what an accepted outcome says ──
 
-no-answer : {A : Type 0} (r : Refusal) (n : ℕ) → Refused r ≡ Accepted n → A
-no-answer r n e = absurd (let z : _≡_ {A = ℕ} 0 1 = cc in omega arith)
-
 module _ (page slot : Bytes) (next : Outcome) (n : ℕ) where
   edit-passed : askEdit page slot refuse next .answer ≡ Accepted n → Passed page slot × (next .answer ≡ Accepted n)
   edit-passed e = go (keepsLayout page) (keepsSlot slot) (rises page) refl refl refl e
@@ -157,13 +154,6 @@ module _ (page slot : Bytes) (next : Outcome) (n : ℕ) where
       go true true false x y z e = no-answer NotRising n e
       go true false c x y z e = no-answer BadLayout n e
       go false b c x y z e = no-answer BadLayout n e
-
-write-accepted : (l : List Bytes) (room n : ℕ) → write l room .answer ≡ Accepted n → length (flatten l) ≤ room
-write-accepted l room n e = go (leb (length (flatten l)) room) refl e
-  where
-    go : (b : Bool) → leb (length (flatten l)) room ≡ b → ask b (refuse Short) (accept l) .answer ≡ Accepted n → length (flatten l) ≤ room
-    go true x e = leb-true (length (flatten l)) room x
-    go false x e = no-answer Short n e
 
 -- an accepted insert
 pub record Inserts (page slot : Bytes) (room : ℕ) : Type 0 where
@@ -188,7 +178,7 @@ inserts page slot room n e =
           passed = v;
           absent = x;
           spare = ltb-true (length (slotsOf page)) maxSlots y;
-          outcome = rw (v .layout, v .slot-layout, v .rising, x, y, le-leb (length (flatten (pieces (placed (slotOf slot) (slotsOf page))))) room w);
+          outcome = rw (v .layout, v .slot-layout, v .rising, x, y) w;
         }
 
 -- an accepted remove
@@ -211,7 +201,7 @@ removes page slot room n e =
         record {
           passed = v;
           present = x;
-          outcome = rw (v .layout, v .slot-layout, v .rising, x, le-leb (length (flatten (pieces (without (nameOf slot) (slotsOf page))))) room w);
+          outcome = rw (v .layout, v .slot-layout, v .rising, x) w;
         }
 
 -- ── a page stays a page ──
@@ -253,14 +243,6 @@ has-without a (y ∷ l) = by (isSame (compareRows (y .name) a)) refl (has-withou
     by true q f = f
     by false q f = rw q f
 
--- a page written again, where it fits
-again : (s : Bytes) → Octets s → keepsLayout s ≡ true → (room : ℕ) → length s ≤ room → write (pieces (slotsOf s)) room ≡ record { answer = Accepted (length (slotsOf s)); bytes = s }
-again s k e room h =
-    let b = page-back s k e in
-    let f : length (flatten (pieces (slotsOf s))) ≤ room = rw b h in
-    let c = length-map (slotsOf s) slotBytes in
-    rw (le-leb (length (flatten (pieces (slotsOf s)))) room f) (λ i. record { answer = Accepted (c i); bytes = b i })
-
 module _ (page slot : Bytes) (po : Octets page) (so : Octets slot) (room n room' : ℕ) (h : length page ≤ room') where
   pub insert-remove : insertion page slot room .answer ≡ Accepted n → removal (insertion page slot room .bytes) slot room' ≡ record { answer = Accepted (length (slotsOf page)); bytes = page }
   unfolding removal
@@ -275,7 +257,7 @@ module _ (page slot : Bytes) (po : Octets page) (so : Octets slot) (room n room'
       let b : slotsOf (insertion page slot room .bytes) ≡ l = ap (λ (o : Outcome). slotsOf (o .bytes)) (i .outcome) ∙ slots-back l g in
       let f : has (nameOf slot) (namesOf (insertion page slot room .bytes)) ≡ true = ap (λ (q : List Slot). has (nameOf slot) (map nameIn q)) b ∙ has-placed x (slotsOf page) in
       let w : without (nameOf slot) (slotsOf (insertion page slot room .bytes)) ≡ slotsOf page = ap (without (nameOf slot)) b ∙ without-placed x (slotsOf page) (i .absent) in
-      rw (p .0, v .slot-layout, p .1, f, w) (again page po (v .layout) room' h)
+      rw (p .0, v .slot-layout, p .1, f, w) (page-again page po (v .layout) room' h)
 
   -- the slot is one of the page's: its line number too
   pub remove-insert : In (slotOf slot) (slotsOf page) → removal page slot room .answer ≡ Accepted n → insertion (removal page slot room .bytes) slot room' ≡ record { answer = Accepted (length (slotsOf page)); bytes = page }
@@ -292,4 +274,4 @@ module _ (page slot : Bytes) (po : Octets page) (so : Octets slot) (room n room'
       let u : placed x l ≡ slotsOf page = placed-without x (slotsOf page) (rising-Rising (namesOf page) (v .rising)) m in
       let w : placed x (slotsOf (removal page slot room .bytes)) ≡ slotsOf page = ap (placed x) b ∙ u in
       let c : length (slotsOf (removal page slot room .bytes)) < maxSlots = omega (arith, ap length b, length-placed x l, ap length u, length-slots page, laid page (v .layout) .few) in
-      rw (p .0, v .slot-layout, p .1, f, lt-ltb (length (slotsOf (removal page slot room .bytes))) maxSlots c, w) (again page po (v .layout) room' h)
+      rw (p .0, v .slot-layout, p .1, f, lt-ltb (length (slotsOf (removal page slot room .bytes))) maxSlots c, w) (page-again page po (v .layout) room' h)

@@ -1,20 +1,25 @@
 -- What an outcome leaves in an output: a refusal every byte as it was; an accepted call its bytes from the start, nothing after
--- them changed, and of slots as many as its count says. Assumes nothing.
-use mathlib.Core.Path.{_≡_, _∙_, ap}
-use mathlib.Core.List.{List, _++_}
+-- them changed, and of slots as many as its count says. What an accepted outcome says of itself: `no-answer`, `write-accepted`; and
+-- a page that is written as it is: `page-again`. Assumes nothing.
+use mathlib.Core.Path.{_≡_, refl, _∙_, ap}
+use mathlib.Core.List.{List, _++_, flatten}
 use Prim.Native.Nat.{ℕ, _*_, _≤_}
-use mathlib.Core.Bool.{true}
+use mathlib.Core.Bool.{Bool, true, false}
 use native.Mathlib.Nat.{zero-add}
 use native.Mathlib.Omega.{arith}
+use borrow.Author.Tests.{le-leb}
+use lib.Dec.{leb}
 use lib.ListN.{length, take, drop, length-map}
 use lib.Seq.{take-append-seam, drop-append-seam}
-use Rattle.slots.specs.Bytes.{Bytes, every}
+use Rattle.slots.specs.Bytes.{Bytes, Octets, every}
 use Rattle.slots.specs.Slots.{Slot, slotSize, slotBytes, isSlot}
 use Rattle.slots.proofs.Put.{put-length}
 use Rattle.pages.specs.declared.Refusal.{Refusal}
-use Rattle.pages.specs.Answers.{Outcome, countOf, refuse, accept, leaves}
-use Rattle.pages.specs.Pages.{pieces}
-use Rattle.pages.proofs.RoundTrip.{written-length}
+use Rattle.pages.specs.declared.Refusal.the-variants.{Short}
+use Rattle.pages.specs.declared.Answer.the-variants.{Accepted, Refused}
+use Rattle.pages.specs.Answers.{Outcome, countOf, ask, refuse, accept, write, leaves}
+use Rattle.pages.specs.Pages.{slotsOf, pieces, keepsLayout}
+use Rattle.pages.proofs.RoundTrip.{page-back, written-length}
 
 -- from the start: the bytes, and what stood after them
 leaves-is : (x : Outcome) (o : Bytes) → leaves x o ≡ x .bytes ++ drop (length (x .bytes)) o
@@ -39,3 +44,23 @@ counted l e = written-length l e ∙ ap (λ (n : ℕ). slotSize * n) (count l)
   where
     count : (l : List Slot) → length l ≡ length (pieces l)
     count l = let q = length-map l slotBytes in omega arith
+
+-- ── what an accepted outcome says ──
+
+pub no-answer : {A : Type 0} (r : Refusal) (n : ℕ) → Refused r ≡ Accepted n → A
+no-answer r n e = absurd (let z : _≡_ {A = ℕ} 0 1 = cc in omega arith)
+
+pub write-accepted : (l : List Bytes) (room n : ℕ) → write l room .answer ≡ Accepted n → write l room ≡ accept l
+write-accepted l room n e = go (leb (length (flatten l)) room) e
+  where
+    go : (b : Bool) → ask b (refuse Short) (accept l) .answer ≡ Accepted n → ask b (refuse Short) (accept l) ≡ accept l
+    go true e = refl
+    go false e = no-answer Short n e
+
+-- a page written again, where it fits
+pub page-again : (s : Bytes) → Octets s → keepsLayout s ≡ true → (room : ℕ) → length s ≤ room → write (pieces (slotsOf s)) room ≡ record { answer = Accepted (length (slotsOf s)); bytes = s }
+page-again s k e room h =
+    let b = page-back s k e in
+    let f : length (flatten (pieces (slotsOf s))) ≤ room = rw b h in
+    let c = length-map (slotsOf s) slotBytes in
+    rw (le-leb (length (flatten (pieces (slotsOf s)))) room f) (λ i. record { answer = Accepted (c i); bytes = b i })

@@ -125,7 +125,7 @@ module _ (l : List Slot) (e : every isSlot l ≡ true) where
   many : length (flatten (pieces l)) / slotSize ≡ length l
   many = let q = written-length l e in omega arith
 
-  parts-are : partsOf (flatten (pieces l)) ≡ pieces l
+  pub parts-are : partsOf (flatten (pieces l)) ≡ pieces l
   parts-are = ap (λ (n : ℕ). parts n (flatten (pieces l))) many ∙ parts-of l e
 
   pub slots-back : slotsOf (flatten (pieces l)) ≡ l
