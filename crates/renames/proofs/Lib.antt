@@ -2,3 +2,5 @@ pub mod Logs
 pub mod Places
 pub mod Chosen
 pub mod Given
+pub mod Carried
+pub mod Books
