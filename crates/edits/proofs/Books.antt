@@ -1,7 +1,8 @@
 -- Insert and remove keep a page a page, and undo one another. Over lists of slots first, then over 01's outcomes:
--- `insert-page`, `remove-page`, `insert-remove`, `remove-insert`. Assumes nothing.
+-- `insert-page`, `remove-page`, with the slots they write, `inserted-slots`, `removed-slots`; `insert-remove`, `remove-insert`.
+-- Assumes nothing.
 use mathlib.Core.Path.{_≡_, refl, _∙_, sym, ap}
-use mathlib.Core.List.{List, [], _∷_, map, List·Memᴰ as In, List·Memᴰ·not-nil, List·Memᴰ·cases-cons}
+use mathlib.Core.List.{List, [], _∷_, map, List·Memᴰ as In, List·Memᴰ·head, List·Memᴰ·tail, List·Memᴰ·not-nil, List·Memᴰ·cases-cons}
 use mathlib.Core.Logic.{inl, inr}
 use mathlib.Core.Bool.{or-true, Bool, true, false, cond, not, _||_}
 use Prim.Native.Nat.{ℕ, suc, _<_, _≤_}
@@ -75,21 +76,42 @@ rising-without a (y ∷ l) r = by (isSame (compareRows (y .name) a)) (rising-wit
     by true q = q
     by false q = cons-rising (over-without a l (rising-over r)) q
 
-every-placed : (x : Slot) (l : List Slot) → isSlot x ≡ true → every isSlot l ≡ true → every isSlot (placed x l) ≡ true
-every-placed x [] p e = rw p
-every-placed x (y ∷ l) p e = by (isLess (compareRows (x .name) (y .name))) (every-placed x l p (and-1 (isSlot y) (every isSlot l) e))
+pub every-placed : (f : Slot → Bool) (x : Slot) (l : List Slot) → f x ≡ true → every f l ≡ true → every f (placed x l) ≡ true
+every-placed f x [] p e = rw p
+every-placed f x (y ∷ l) p e = by (isLess (compareRows (x .name) (y .name))) (every-placed f x l p (and-1 (f y) (every f l) e))
   where
-    by : (b : Bool) → every isSlot (placed x l) ≡ true → every isSlot (cond b (x ∷ y ∷ l) (y ∷ placed x l)) ≡ true
+    by : (b : Bool) → every f (placed x l) ≡ true → every f (cond b (x ∷ y ∷ l) (y ∷ placed x l)) ≡ true
     by true q = rw p e
-    by false q = rw (and-0 (isSlot y) (every isSlot l) e) q
+    by false q = rw (and-0 (f y) (every f l) e) q
 
-every-without : (a : Row) (l : List Slot) → every isSlot l ≡ true → every isSlot (without a l) ≡ true
-every-without a [] e = refl
-every-without a (y ∷ l) e = by (isSame (compareRows (y .name) a)) (every-without a l (and-1 (isSlot y) (every isSlot l) e))
+pub every-without : (f : Slot → Bool) (a : Row) (l : List Slot) → every f l ≡ true → every f (without a l) ≡ true
+every-without f a [] e = refl
+every-without f a (y ∷ l) e = by (isSame (compareRows (y .name) a)) (every-without f a l (and-1 (f y) (every f l) e))
   where
-    by : (b : Bool) → every isSlot (without a l) ≡ true → every isSlot (cond b (without a l) (y ∷ without a l)) ≡ true
+    by : (b : Bool) → every f (without a l) ≡ true → every f (cond b (without a l) (y ∷ without a l)) ≡ true
     by true q = q
-    by false q = rw (and-0 (isSlot y) (every isSlot l) e) q
+    by false q = rw (and-0 (f y) (every f l) e) q
+
+-- no slot is lost but those of the name removed
+pub in-placed : (x : Slot) (l : List Slot) {z : Slot} → In z l → In z (placed x l)
+in-placed x [] m = absurd (List·Memᴰ·not-nil m)
+in-placed x (y ∷ l) {z} m = by (isLess (compareRows (x .name) (y .name))) (λ k. in-placed x l k)
+  where
+    by : (b : Bool) → (In z l → In z (placed x l)) → In z (cond b (x ∷ y ∷ l) (y ∷ placed x l))
+    by true f = List·Memᴰ·tail m
+    by false f = elim (List·Memᴰ·cases-cons m) [ inl e ↦ List·Memᴰ·head e | inr k ↦ List·Memᴰ·tail (f k) ]
+
+pub in-without : (a : Row) (l : List Slot) {z : Slot} → ¬ (z .name ≡ a) → In z l → In z (without a l)
+in-without a [] h m = absurd (List·Memᴰ·not-nil m)
+in-without a (y ∷ l) {z} h m = by (compareRows (y .name) a) (triN (y .name) a) (λ k. in-without a l h k)
+  where
+    step : (In z l → In z (without a l)) → In z (y ∷ without a l)
+    step f = elim (List·Memᴰ·cases-cons m) [ inl e ↦ List·Memᴰ·head e | inr k ↦ List·Memᴰ·tail (f k) ]
+
+    by : (o : Order) → Tri _<ⁿ_ (y .name) a o → (In z l → In z (without a l)) → In z (cond (isSame o) (without a l) (y ∷ without a l))
+    by _ (isBelow q) f = step f
+    by _ (above q) f = step f
+    by _ (level q) f = elim (List·Memᴰ·cases-cons m) [ inl e ↦ absurd (h (ap nameIn e ∙ q)) | inr k ↦ f k ]
 
 length-placed : (x : Slot) (l : List Slot) → length (placed x l) ≡ suc (length l)
 length-placed x [] = refl
@@ -207,14 +229,27 @@ removes page slot room n e =
 -- ── a page stays a page ──
 
 module _ (page slot : Bytes) (po : Octets page) (so : Octets slot) (room n : ℕ) where
+  -- what is written are slots
+  pub insert-good : insertion page slot room .answer ≡ Accepted n → every isSlot (placed (slotOf slot) (slotsOf page)) ≡ true
+  insert-good e =
+      let v = inserts page slot room n e .passed in
+      every-placed isSlot (slotOf slot) (slotsOf page) (decoded-slot slot so (kept slot (v .slot-layout))) (page-slots page po (v .layout))
+
+  pub inserted-slots : insertion page slot room .answer ≡ Accepted n → slotsOf (insertion page slot room .bytes) ≡ placed (slotOf slot) (slotsOf page)
+  inserted-slots e = ap (λ (o : Outcome). slotsOf (o .bytes)) (inserts page slot room n e .outcome) ∙ slots-back (placed (slotOf slot) (slotsOf page)) (insert-good e)
+
   pub insert-page : insertion page slot room .answer ≡ Accepted n → (keepsLayout (insertion page slot room .bytes) ≡ true) × (rises (insertion page slot room .bytes) ≡ true)
   insert-page e =
       let i = inserts page slot room n e in
-      let v = i .passed in
       let x = slotOf slot in
-      let s = decoded-slot slot so (kept slot (v .slot-layout)) in
-      let p = written-page (placed x (slotsOf page)) (every-placed x (slotsOf page) s (page-slots page po (v .layout))) (omega (arith, length-placed x (slotsOf page), i .spare)) (rising-placed x (slotsOf page) (rising-Rising (namesOf page) (v .rising)) (i .absent)) in
+      let p = written-page (placed x (slotsOf page)) (insert-good e) (omega (arith, length-placed x (slotsOf page), i .spare)) (rising-placed x (slotsOf page) (rising-Rising (namesOf page) (i .passed .rising)) (i .absent)) in
       rw (i .outcome) p
+
+  pub remove-good : removal page slot room .answer ≡ Accepted n → every isSlot (without (nameOf slot) (slotsOf page)) ≡ true
+  remove-good e = every-without isSlot (nameOf slot) (slotsOf page) (page-slots page po (removes page slot room n e .passed .layout))
+
+  pub removed-slots : removal page slot room .answer ≡ Accepted n → slotsOf (removal page slot room .bytes) ≡ without (nameOf slot) (slotsOf page)
+  removed-slots e = ap (λ (o : Outcome). slotsOf (o .bytes)) (removes page slot room n e .outcome) ∙ slots-back (without (nameOf slot) (slotsOf page)) (remove-good e)
 
   pub remove-page : removal page slot room .answer ≡ Accepted n → (keepsLayout (removal page slot room .bytes) ≡ true) × (rises (removal page slot room .bytes) ≡ true)
   remove-page e =
@@ -222,7 +257,7 @@ module _ (page slot : Bytes) (po : Octets page) (so : Octets slot) (room n : ℕ
       let v = i .passed in
       let a = nameOf slot in
       let f = laid page (v .layout) .few in
-      let p = written-page (without a (slotsOf page)) (every-without a (slotsOf page) (page-slots page po (v .layout))) (omega (arith, length-without a (slotsOf page), length-slots page)) (rising-without a (slotsOf page) (rising-Rising (namesOf page) (v .rising))) in
+      let p = written-page (without a (slotsOf page)) (remove-good e) (omega (arith, length-without a (slotsOf page), length-slots page)) (rising-without a (slotsOf page) (rising-Rising (namesOf page) (v .rising))) in
       rw (i .outcome) p
 
 -- ── insert and remove undo one another ──
@@ -250,11 +285,8 @@ module _ (page slot : Bytes) (po : Octets page) (so : Octets slot) (room n room'
       let i = inserts page slot room n e in
       let v = i .passed in
       let x = slotOf slot in
-      let l = placed x (slotsOf page) in
-      let s = decoded-slot slot so (kept slot (v .slot-layout)) in
-      let g = every-placed x (slotsOf page) s (page-slots page po (v .layout)) in
       let p = insert-page page slot po so room n e in
-      let b : slotsOf (insertion page slot room .bytes) ≡ l = ap (λ (o : Outcome). slotsOf (o .bytes)) (i .outcome) ∙ slots-back l g in
+      let b = inserted-slots page slot po so room n e in
       let f : has (nameOf slot) (namesOf (insertion page slot room .bytes)) ≡ true = ap (λ (q : List Slot). has (nameOf slot) (map nameIn q)) b ∙ has-placed x (slotsOf page) in
       let w : without (nameOf slot) (slotsOf (insertion page slot room .bytes)) ≡ slotsOf page = ap (without (nameOf slot)) b ∙ without-placed x (slotsOf page) (i .absent) in
       rw (p .0, v .slot-layout, p .1, f, w) (page-again page po (v .layout) room' h)
@@ -267,9 +299,8 @@ module _ (page slot : Bytes) (po : Octets page) (so : Octets slot) (room n room'
       let v = i .passed in
       let x = slotOf slot in
       let l = without (nameOf slot) (slotsOf page) in
-      let g = every-without (nameOf slot) (slotsOf page) (page-slots page po (v .layout)) in
       let p = remove-page page slot po so room n e in
-      let b : slotsOf (removal page slot room .bytes) ≡ l = ap (λ (o : Outcome). slotsOf (o .bytes)) (i .outcome) ∙ slots-back l g in
+      let b = removed-slots page slot po so room n e in
       let f : has (nameOf slot) (namesOf (removal page slot room .bytes)) ≡ false = ap (λ (q : List Slot). has (nameOf slot) (map nameIn q)) b ∙ has-without (nameOf slot) (slotsOf page) in
       let u : placed x l ≡ slotsOf page = placed-without x (slotsOf page) (rising-Rising (namesOf page) (v .rising)) m in
       let w : placed x (slotsOf (removal page slot room .bytes)) ≡ slotsOf page = ap (placed x) b ∙ u in
