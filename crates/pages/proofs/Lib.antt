@@ -2,5 +2,6 @@ pub mod Parts
 pub mod Halving
 pub mod Copied
 pub mod RoundTrip
+pub mod Octets
 pub mod Outcomes
 pub mod Settled
