@@ -1,18 +1,18 @@
 -- Renaming a page and taking a rename back, over 01's outcomes: what an accepted one says (`renames`, `takes-back`); it writes a
--- page, markers or not (`rename-page`, `back-page`), with these slots (`renamed-slots`, `back-slots`); and a renamed page taken back
--- is the page, byte for byte (`rename-back`). Assumes nothing.
+-- page, markers or not (`rename-page`, `back-page`), with these slots (`renamed-slots`, `back-slots`, `back-parts`); and a renamed
+-- page taken back is the page, byte for byte (`rename-back`). Assumes nothing.
 use mathlib.Core.Path.{_≡_, refl, _∙_, sym, ap}
 use mathlib.Core.List.{List, [], _∷_, map}
-use mathlib.Core.Bool.{Bool, true, false, _&&_}
+use mathlib.Core.Bool.{Bool, true, false}
 use Prim.Native.Nat.{ℕ, _≤_}
 use native.Mathlib.Omega.{arith}
 use borrow.Author.Tests.{leb-true, le-leb}
 use lib.Dec.{leb}
-use lib.ListN.{length, length-map}
+use lib.ListN.{length}
 use Rattle.names.specs.declared.Author.{Author}
-use Rattle.names.specs.Ordering.{Row, Rising, rising}
+use Rattle.names.specs.Ordering.{Row, rising}
 use Rattle.names.specs.Names.{within}
-use Rattle.names.proofs.Laws.{and-0, and-1, yes-no, rising-Rising}
+use Rattle.names.proofs.Laws.{and-0, yes-no, rising-Rising}
 use Rattle.names.proofs.Validity.{Allowed, Valid}
 use Rattle.renaming.specs.Renaming.{rename, fresh, Fresh, takeBack}
 use Rattle.renaming.proofs.Lists.{All, cons, all-each}
@@ -22,16 +22,17 @@ use Rattle.renaming.proofs.GivenBack.{back-rename}
 use Rattle.renaming.proofs.Validity.{rename-valid-all, takeBack-valid-all}
 use Rattle.slots.specs.Bytes.{Bytes, Octets, every}
 use Rattle.pages.specs.Answers.{Outcome, numberOf, ask, refuse, accept, write}
-use Rattle.pages.specs.Pages.{slotsOf, nameIn, namesOf, pieces, keepsLayout, rises, lineIsZero, isLog}
+use Rattle.pages.specs.Pages.{partsOf, slotsOf, nameIn, namesOf, pieces, keepsLayout, rises, isLog}
 use Rattle.pages.specs.declared.Answer.{Answer}
 use Rattle.pages.specs.declared.Answer.the-variants.{Accepted}
 use Rattle.pages.specs.declared.Refusal.{Refusal}
 use Rattle.pages.specs.declared.Refusal.the-variants.{BadLayout, NotRising, BadLog, NoAuthor, NotFresh, TooDeep, NotRisingBack}
-use Rattle.pages.proofs.Parts.{length-slots}
+use Rattle.pages.proofs.Octets.{written-octets}
 use Rattle.pages.proofs.Outcomes.{no-answer, write-accepted, page-again}
-use Rattle.pages.proofs.RoundTrip.{laid, page-slots}
+use Rattle.pages.proofs.RoundTrip.{page-slots}
 use Rattle.renames.specs.Renames.{carried, areFresh, allFit, askRename, renaming, takingBack}
-use Rattle.renames.proofs.Carried.{all-every, page-valid, names-fit, carried-names, carried-again, carried-slots, carried-page}
+use Rattle.renames.proofs.Logs.{logged}
+use Rattle.renames.proofs.Carried.{all-every, page-valid, names-fit, carried-names, carried-again, carried-good, carried-slots, carried-parts, carried-page}
 
 -- ── what an accepted outcome says ──
 
@@ -96,41 +97,12 @@ takes-back page log author room n e =
     let p = accepted page log author (allFit f page) (rising (map f (namesOf page))) TooDeep NotRisingBack (pieces (carried f (slotsOf page))) room n e in
     record { asked = p .0; all-fit = p .1; rises-back = p .2; outcome = p .3 }
 
--- ── the log ──
-
--- what the check of a log has found of its names
-pub record Log (names : List Row) : Type 0 where
-  pub rising : Rising names
-  pub valid : All Valid names
-  pub some : 1 ≤ length names
-  pub few : length names ≤ 2147483647
-
-pub log-names : (log : Bytes) → isLog log ≡ true → Log (namesOf log)
-unfolding isLog
-log-names log e =
-    let a = keepsLayout log in
-    let b = rises log in
-    let c = leb 1 (length (slotsOf log)) in
-    let e₂ = and-0 (a && b && c) (every lineIsZero (slotsOf log)) e in
-    let e₁ = and-0 (a && b) c e₂ in
-    let k = and-0 a b e₁ in
-    let s = leb-true 1 (length (slotsOf log)) (and-1 (a && b) c e₂) in
-    let n = length-map (slotsOf log) nameIn in
-    record {
-      rising = rising-Rising (namesOf log) (and-1 a b e₁);
-      valid = page-valid log k;
-      some = omega (arith, s, n);
-      few = omega (arith, n, length-slots log, laid log k .few);
-    }
-
 -- ── an accepted call writes a page ──
 
-rename-valid-log : (author : Author) (log : List Row) {names : List Row} → Allowed author → Log log → All Valid names → All Valid (map (rename author log) names)
-rename-valid-log author [] a w vs = absurd (omega (arith, w .some))
-rename-valid-log author (r ∷ rest) a w vs = rename-valid-all author r rest a (w .few) (first (w .valid)) vs
-  where
-    first : All Valid (r ∷ rest) → Valid r
-    first (cons v vs) = v
+-- over a log that has been checked
+rename-valid-log : (author : Author) (log : List Row) {names : List Row} → Allowed author → 1 ≤ length log → length log ≤ 2147483647 → All Valid log → All Valid names → All Valid (map (rename author log) names)
+rename-valid-log author [] a h b ls vs = absurd (omega arith)
+rename-valid-log author (r ∷ rest) a h b (cons l ls) vs = rename-valid-all author r rest a b l vs
 
 module _ (page log : Bytes) (author : Author) where
   pub page-fresh : areFresh author page log ≡ true → All (Fresh author) (namesOf page)
@@ -141,10 +113,14 @@ module _ (page log : Bytes) (author : Author) where
     allowed v = record { node-min = v .node; node-max = node-max; sequence-max = sequence-max }
 
     pub renamed-valid : Asked page log author → All Valid (map (rename author (namesOf log)) (namesOf page))
-    renamed-valid v = rename-valid-log author (namesOf log) (allowed v) (log-names log (v .logged)) (page-valid page (v .layout))
+    renamed-valid v =
+        let w = logged log (v .logged) in
+        rename-valid-log author (namesOf log) (allowed v) (w .some) (omega (arith, w .few)) (page-valid log (w .layout)) (page-valid page (v .layout))
 
     pub back-valid : Asked page log author → All Valid (map (takeBack author (namesOf log)) (namesOf page))
-    back-valid v = let w = log-names log (v .logged) in takeBack-valid-all author (namesOf log) (allowed v) (w .few) (w .valid) (page-valid page (v .layout))
+    back-valid v =
+        let w = logged log (v .logged) in
+        takeBack-valid-all author (namesOf log) (allowed v) (omega (arith, w .few)) (page-valid log (w .layout)) (page-valid page (v .layout))
 
     module _ (po : Octets page) (room n : ℕ) where
       pub renamed-slots : renaming page log author room .answer ≡ Accepted n → slotsOf (renaming page log author room .bytes) ≡ carried (rename author (namesOf log)) (slotsOf page)
@@ -160,10 +136,23 @@ module _ (page log : Bytes) (author : Author) where
           let p = carried-page (rename author (namesOf log)) page po (v .layout) (renamed-valid v) (i .all-fit) r in
           rw (i .outcome) p
 
+      -- its output is bytes, as the page was
+      pub rename-octets : renaming page log author room .answer ≡ Accepted n → Octets (renaming page log author room .bytes)
+      rename-octets e =
+          let i = renames page log author room n e in
+          let f = rename author (namesOf log) in
+          rw (i .outcome) (written-octets (carried f (slotsOf page)) (carried-good f page po (i .asked .layout) (renamed-valid (i .asked)) (i .all-fit)))
+
       pub back-slots : takingBack page log author room .answer ≡ Accepted n → slotsOf (takingBack page log author room .bytes) ≡ carried (takeBack author (namesOf log)) (slotsOf page)
       back-slots e =
           let i = takes-back page log author room n e in
           ap (λ (o : Outcome). slotsOf (o .bytes)) (i .outcome) ∙ carried-slots (takeBack author (namesOf log)) page po (i .asked .layout) (back-valid (i .asked)) (i .all-fit)
+
+      -- the same, as bytes
+      pub back-parts : takingBack page log author room .answer ≡ Accepted n → partsOf (takingBack page log author room .bytes) ≡ pieces (carried (takeBack author (namesOf log)) (slotsOf page))
+      back-parts e =
+          let i = takes-back page log author room n e in
+          ap (λ (o : Outcome). partsOf (o .bytes)) (i .outcome) ∙ carried-parts (takeBack author (namesOf log)) page po (i .asked .layout) (back-valid (i .asked)) (i .all-fit)
 
       pub back-page : takingBack page log author room .answer ≡ Accepted n → (keepsLayout (takingBack page log author room .bytes) ≡ true) × (rises (takingBack page log author room .bytes) ≡ true)
       back-page e =

@@ -1,6 +1,6 @@
 -- A page whose names go through a function f, be it `rename author log` or `takeBack author log`: where the results are names that
--- fit, slots are written (`carried-good`) and read back as they were written (`carried-slots`); where the results rise too, it is a
--- page (`carried-page`). A function that undoes f on the page's names gives the slots back (`carried-again`). Assumes nothing.
+-- fit, slots are written (`carried-good`) and read back as they were written (`carried-slots`, `carried-parts`); where the results
+-- rise too, it is a page (`carried-page`). A function that undoes f on the page's names gives the slots back (`carried-again`). Assumes nothing.
 use mathlib.Core.Path.{_≡_, refl, _∙_, sym}
 use mathlib.Core.List.{List, [], _∷_, map, map-map, flatten}
 use mathlib.Core.Bool.{Bool, true, _&&_}
@@ -18,7 +18,7 @@ use Rattle.slots.specs.Slots.{Slot, nameOf, slotOf, keepsSlot, isSlot}
 use Rattle.slots.proofs.RoundTrip.{kept}
 use Rattle.pages.specs.Pages.{maxSlots, partsOf, slotsOf, nameIn, namesOf, pieces, keepsLayout, rises}
 use Rattle.pages.proofs.Parts.{length-slots}
-use Rattle.pages.proofs.RoundTrip.{laid, page-slots, slots-back, written-page}
+use Rattle.pages.proofs.RoundTrip.{laid, page-slots, parts-are, slots-back, written-page}
 use Rattle.renames.specs.Renames.{carry, carried, allFit}
 
 -- ── the names of a page ──
@@ -68,6 +68,9 @@ module _ (f : Row → Row) (page : Bytes) (po : Octets page) (k : keepsLayout pa
 
   pub carried-slots : slotsOf (flatten (pieces (carried f (slotsOf page)))) ≡ carried f (slotsOf page)
   carried-slots = slots-back (carried f (slotsOf page)) carried-good
+
+  pub carried-parts : partsOf (flatten (pieces (carried f (slotsOf page)))) ≡ pieces (carried f (slotsOf page))
+  carried-parts = parts-are (carried f (slotsOf page)) carried-good
 
   pub carried-page : Rising (map f (namesOf page)) → (keepsLayout (flatten (pieces (carried f (slotsOf page)))) ≡ true) × (rises (flatten (pieces (carried f (slotsOf page)))) ≡ true)
   carried-page r =

@@ -1,0 +1,4 @@
+pub mod Members
+pub mod Unmarked
+pub mod Along
+pub mod Demand
