@@ -9,3 +9,4 @@ pub mod GivenBack
 pub mod Backward
 pub mod Validity
 pub mod Starred
+pub mod Paper

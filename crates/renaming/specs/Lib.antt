@@ -1,2 +1,3 @@
 pub mod Renaming
 pub mod Starred
+pub mod Paper
