@@ -2,5 +2,6 @@ pub mod Logs
 pub mod Places
 pub mod Chosen
 pub mod Given
+pub mod Strips
 pub mod Carried
 pub mod Books

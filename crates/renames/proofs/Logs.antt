@@ -1,23 +1,27 @@
--- What the check of a log has found (`logged`), and where its first position stands (`first-at`). Assumes nothing.
-use mathlib.Core.Path.{_≡_, refl, _∙_, sym, ap}
+-- What the check of a log has found (`logged`), that its names are names (`log-named`), and where its first position stands (`first-at`). Assumes nothing.
+use mathlib.Core.Path.{_≡_, _∙_, sym}
 use mathlib.Core.List.{List, [], _∷_, map}
-use mathlib.Core.Bool.{Bool, true, _&&_}
+use mathlib.Core.Bool.{true, _&&_}
 use Prim.Native.Nat.{ℕ, zero, suc, _+_, _*_, _-_, _/_, _<_, _≤_}
+use native.Mathlib.Nat.{not-suc-le-zero, le-of-suc-le-suc}
 use native.Mathlib.Omega.{arith}
 use borrow.Author.Tests.{leb-true}
 use lib.Dec.{leb}
 use lib.ListN.{length, take, drop, getD}
 use lib.Seq.{getD-take}
 use Rattle.names.specs.Ordering.{Row, Rising}
-use Rattle.names.specs.Names.{limit}
+use Rattle.names.specs.Names.{isName}
+use Rattle.names.proofs.Validity.{valid-name}
+use Rattle.renaming.proofs.Lists.{All, nil, cons}
 use Rattle.names.proofs.Laws.{and-0, and-1, rising-Rising}
-use Rattle.slots.specs.Bytes.{Bytes, at16, tupleAt, tuplesAt, every}
+use Rattle.slots.specs.Bytes.{Bytes, at16, tupleAt, every}
 use Rattle.slots.specs.Slots.{headSize, slotSize, depthOf, nameOf, slotOf, keepsSlot}
-use Rattle.slots.proofs.RoundTrip.{Kept, kept}
-use Rattle.pages.specs.Pages.{maxSlots, parts, partsOf, slotsOf, nameIn, namesOf, keepsLayout, rises, lineIsZero, isLog}
+use Rattle.slots.proofs.RoundTrip.{kept}
+use Rattle.pages.specs.Pages.{maxSlots, parts, slotsOf, nameIn, namesOf, keepsLayout, rises, lineIsZero, isLog}
 use Rattle.pages.proofs.Parts.{length-slots, length-names}
 use Rattle.pages.proofs.RoundTrip.{laid}
 use Rattle.renaming.specs.Renaming.{firstPosition}
+use Rattle.renames.proofs.Carried.{page-valid}
 
 pub record Logged (log : Bytes) : Type 0 where
   pub layout : keepsLayout log ≡ true
@@ -63,3 +67,13 @@ first-at log e = go (length log / slotSize) (logged log e .some) (laid log (logg
     go (suc n) h g q =
         let k = kept (take slotSize log) (and-0 (keepsSlot (take slotSize log)) (every keepsSlot (parts n (drop slotSize log))) g) in
         sym (slot-position (take slotSize log) (map nameIn (map slotOf (parts n (drop slotSize log)))) (depthOf (take slotSize log) - 1) (omega (arith, k .deep)) ∙ part-position log)
+
+-- ── its names ──
+
+each : {P : Row → Type 0} (k : ℕ) {l : List Row} → All P l → k < length l → P (getD l k [])
+each k nil h = absurd (not-suc-le-zero h)
+each zero (cons v vs) h = v
+each (suc k) (cons v vs) h = each k vs (le-of-suc-le-suc h)
+
+pub log-named : (log : Bytes) (k : ℕ) → isLog log ≡ true → k < length (namesOf log) → isName (getD (namesOf log) k []) ≡ true
+log-named log k e h = valid-name (each k (page-valid log (logged log e .layout)) h)

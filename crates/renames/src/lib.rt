@@ -3,14 +3,15 @@
 ghost use mathlib.Core.Path.{_≡_};
 ghost use mathlib.Core.List.{[], _∷_, _++_};
 ghost use mathlib.Core.Bool.{true};
-ghost use Prim.Native.Nat.{_≤_, _<_};
+ghost use Prim.Native.Nat.{_-_, _≤_, _<_};
 ghost use lib.IntN.{pos};
-ghost use lib.ListN.{take};
-ghost use Rattle.names.specs.Ordering.{compareRows, isLess, isSame};
+ghost use lib.ListN.{length, take, getD};
+ghost use lib.Signed.{nonNeg};
+ghost use Rattle.names.specs.Ordering.{compareRows, isLess, isSame, _≤ⁿ_};
 ghost use Rattle.names.specs.Names.{rowOf, isName, oneBelow, Gives, m, M};
 ghost use Rattle.pages.specs.Pages.{maxSlots, namesOf, rises, isLog};
 ghost use Rattle.pages.specs.Places.{below, placeOf};
-ghost use Rattle.renaming.specs.Renaming.{firstPosition, lead as leadTuple, N, caseOf, ifBelow, rename as renameRow, under as underRow, over as overRow, backBetween};
+ghost use Rattle.renaming.specs.Renaming.{firstPosition, lead as leadTuple, N, caseOf, ifBelow, rename as renameRow, under as underRow, over as overRow, backBetween, stripBelow, stripAbove, takeBack as takeBackRow};
 use names::Author;
 use names::Joined;
 use names::LIMIT;
@@ -153,7 +154,12 @@ pub fn rename_name(log: &[u8], author: Author, x: Name) -> Joined
     requires { ⌜ isLog (now log) ≡ true ⌝ }
     ensures { λ r. ⌜ Gives r (renameRow author (namesOf (now (log .entry))) (rowOf x)) ⌝ }
 {
-    renamed_by(log, author, case_at(log, author, place_from(log, x, 0), x), x)
+    renamed_by(
+        log,
+        author,
+        case_at(log, author, place_from(log, x, 0), x),
+        x,
+    )
 }
 
 // A name is below the name of one tuple.
@@ -242,4 +248,82 @@ fn between(r: Name, q: Name, t: Name) -> Joined
         Order::Same => behind(r, t),
         Order::More => under(q, t),
     }
+}
+
+// "v is t where c = (p, A, s, −1)·t with t not empty and t not below N(0); otherwise v is c." An empty t is below N(0).
+fn strip_below(p: u16, author: Author, c: Name) -> Name
+    ensures { λ r. ⌜ rowOf r ≡ stripBelow p author (rowOf c) ⌝ }
+{
+    if begins(c, lead(p, author, -1)) {
+        let t = names::tail(c);
+        if is_below(t, lead(p, author, 0)) {
+            return c;
+        }
+        return t;
+    }
+    c
+}
+
+// "v is t where c = N(n−1)·t and t is below N(n−1); otherwise v is c"; k is n − 1.
+fn strip_above(p: u16, author: Author, k: usize, c: Name) -> Name
+    requires { ⌜ k < maxSlots ⌝ }
+    ensures { λ r. ⌜ rowOf r ≡ stripAbove p author k (rowOf c) ⌝ }
+{
+    if begins(c, numbered(p, author, k)) {
+        let t = names::tail(c);
+        if is_below(t, numbered(p, author, k)) {
+            return t;
+        }
+    }
+    c
+}
+
+fn natural(z: i32) -> usize
+    requires { ⌜ nonNeg z ≡ true ⌝ }
+    ensures { λ r. ⌜ pos r ≡ z ⌝ }
+{
+    z as usize
+}
+
+// The k of N(k)·t: the first tuple's offset.
+fn index_of(c: Name) -> usize
+    requires { ⌜ (1 ≤ length (rowOf c)) × (nonNeg (getD (rowOf c) 0 m .offset) ≡ true) ⌝ }
+    ensures { λ r. ⌜ pos r ≡ getD (rowOf c) 0 m .offset ⌝ }
+{
+    let s = c.tuples;
+    let t = s[0];
+    natural(t.offset)
+}
+
+// "c = N(k), 0 ≤ k < n: r(k)", and c between N(k) and N(k+1). k is read off the first tuple.
+fn back_within(log: &[u8], author: Author, c: Name) -> Joined
+    requires { ⌜ isLog (now log) ≡ true ⌝ }
+    requires { ⌜ (N (firstPosition (namesOf (now log))) author 0 ≤ⁿ rowOf c) × (rowOf c ≤ⁿ N (firstPosition (namesOf (now log))) author (length (namesOf (now log)) - 1)) ⌝ }
+    ensures { λ r. ⌜ Gives r (takeBackRow author (namesOf (now (log .entry))) (rowOf c)) ⌝ }
+{
+    let k = index_of(c);
+    if names::tuples_in(c) < 2 {
+        return whole(pages::name_of(log, k));
+    }
+    between(
+        pages::name_of(log, k),
+        pages::name_of(log, k + 1),
+        names::tail(c),
+    )
+}
+
+// One name, taken back; it has more than LIMIT tuples where it does not fit.
+pub fn take_back_name(log: &[u8], author: Author, c: Name) -> Joined
+    requires { ⌜ isLog (now log) ≡ true ⌝ }
+    ensures { λ r. ⌜ Gives r (takeBackRow author (namesOf (now (log .entry))) (rowOf c)) ⌝ }
+{
+    let p = first_position(log);
+    if is_below(c, lead(p, author, 0)) {
+        return under(pages::name_of(log, 0), strip_below(p, author, c));
+    }
+    let last = log.len() / SLOT - 1;
+    if is_above(c, numbered(p, author, last)) {
+        return over(pages::name_of(log, last), strip_above(p, author, last, c));
+    }
+    back_within(log, author, c)
 }
