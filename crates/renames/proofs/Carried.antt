@@ -1,23 +1,24 @@
 -- A page whose names go through a function f, be it `rename author log` or `takeBack author log`: where the results are names that
 -- fit, slots are written (`carried-good`) and read back as they were written (`carried-slots`, `carried-parts`); where the results
 -- rise too, it is a page (`carried-page`). A function that undoes f on the page's names gives the slots back (`carried-again`). Assumes nothing.
-use mathlib.Core.Path.{_≡_, refl, _∙_, sym}
+use mathlib.Core.Path.{_≡_, refl, _∙_, sym, ap}
 use mathlib.Core.List.{List, [], _∷_, map, map-map, flatten}
 use mathlib.Core.Bool.{Bool, true, _&&_}
-use Prim.Native.Nat.{_≤_}
+use Prim.Native.Nat.{ℕ, zero, suc, _*_, _/_, _<_, _≤_}
+use native.Mathlib.Nat.{not-suc-le-zero, le-of-suc-le-suc}
 use native.Mathlib.Omega.{arith}
 use lib.Dec.{leb}
-use lib.ListN.{length, length-map}
+use lib.ListN.{length, getD, length-map}
 use Rattle.names.specs.Ordering.{Row, Rising}
 use Rattle.names.specs.Names.{isName, fits}
 use Rattle.names.proofs.Laws.{and-0, and-1}
 use Rattle.names.proofs.Validity.{Valid, name-valid, valid-name}
 use Rattle.renaming.proofs.Lists.{All, nil, cons, all-map}
 use Rattle.slots.specs.Bytes.{Bytes, Octets, every}
-use Rattle.slots.specs.Slots.{Slot, nameOf, slotOf, keepsSlot, isSlot}
+use Rattle.slots.specs.Slots.{Slot, slotSize, nameOf, slotOf, keepsSlot, isSlot}
 use Rattle.slots.proofs.RoundTrip.{kept}
-use Rattle.pages.specs.Pages.{maxSlots, partsOf, slotsOf, nameIn, namesOf, pieces, keepsLayout, rises}
-use Rattle.pages.proofs.Parts.{length-slots}
+use Rattle.pages.specs.Pages.{maxSlots, parts, partsOf, slotsOf, nameIn, namesOf, pieces, keepsLayout, rises}
+use Rattle.pages.proofs.Parts.{length-parts, length-slots, lent, lent-part}
 use Rattle.pages.proofs.RoundTrip.{laid, page-slots, parts-are, slots-back, written-page}
 use Rattle.renames.specs.Renames.{carry, carried, allFit}
 
@@ -27,6 +28,19 @@ use Rattle.renames.specs.Renames.{carry, carried, allFit}
 pub all-every : {A : Type 0} {P : A → Type 0} (f : A → Bool) → ((x : A) → f x ≡ true → P x) → (l : List A) → every f l ≡ true → All P l
 all-every f h [] e = nil
 all-every f h (x ∷ l) e = cons (h x (and-0 (f x) (every f l) e)) (all-every f h l (and-1 (f x) (every f l) e))
+
+-- what holds of each of a list holds of the k-th
+pub each : {A : Type 0} {P : A → Type 0} (d : A) (k : ℕ) {l : List A} → All P l → k < length l → P (getD l k d)
+each d k nil h = absurd (not-suc-le-zero h)
+each d zero (cons v vs) h = v
+each d (suc k) (cons v vs) h = each d k vs (le-of-suc-le-suc h)
+
+-- a slot of a page, as the code lends it
+pub lent-keeps : (s : Bytes) (k : ℕ) → keepsLayout s ≡ true → k < length s / slotSize → keepsSlot (lent s (slotSize * k)) ≡ true
+lent-keeps s k e h =
+    let n = length s / slotSize in
+    let l : k < length (parts n s) = rw length-parts h in
+    ap keepsSlot (lent-part s n k (slotSize * k) refl h) ∙ each [] k (all-every keepsSlot (λ b i. i) (parts n s) (laid s e .good)) l
 
 pub page-valid : (s : Bytes) → keepsLayout s ≡ true → All Valid (namesOf s)
 page-valid s e =

@@ -3,5 +3,6 @@ pub mod Places
 pub mod Chosen
 pub mod Given
 pub mod Strips
+pub mod Freshness
 pub mod Carried
 pub mod Books

@@ -3,7 +3,6 @@ use mathlib.Core.Path.{_≡_, _∙_, sym}
 use mathlib.Core.List.{List, [], _∷_, map}
 use mathlib.Core.Bool.{true, _&&_}
 use Prim.Native.Nat.{ℕ, zero, suc, _+_, _*_, _-_, _/_, _<_, _≤_}
-use native.Mathlib.Nat.{not-suc-le-zero, le-of-suc-le-suc}
 use native.Mathlib.Omega.{arith}
 use borrow.Author.Tests.{leb-true}
 use lib.Dec.{leb}
@@ -12,7 +11,6 @@ use lib.Seq.{getD-take}
 use Rattle.names.specs.Ordering.{Row, Rising}
 use Rattle.names.specs.Names.{isName}
 use Rattle.names.proofs.Validity.{valid-name}
-use Rattle.renaming.proofs.Lists.{All, nil, cons}
 use Rattle.names.proofs.Laws.{and-0, and-1, rising-Rising}
 use Rattle.slots.specs.Bytes.{Bytes, at16, tupleAt, every}
 use Rattle.slots.specs.Slots.{headSize, slotSize, depthOf, nameOf, slotOf, keepsSlot}
@@ -21,7 +19,7 @@ use Rattle.pages.specs.Pages.{maxSlots, parts, slotsOf, nameIn, namesOf, keepsL
 use Rattle.pages.proofs.Parts.{length-slots, length-names}
 use Rattle.pages.proofs.RoundTrip.{laid}
 use Rattle.renaming.specs.Renaming.{firstPosition}
-use Rattle.renames.proofs.Carried.{page-valid}
+use Rattle.renames.proofs.Carried.{each, page-valid}
 
 pub record Logged (log : Bytes) : Type 0 where
   pub layout : keepsLayout log ≡ true
@@ -70,10 +68,5 @@ first-at log e = go (length log / slotSize) (logged log e .some) (laid log (logg
 
 -- ── its names ──
 
-each : {P : Row → Type 0} (k : ℕ) {l : List Row} → All P l → k < length l → P (getD l k [])
-each k nil h = absurd (not-suc-le-zero h)
-each zero (cons v vs) h = v
-each (suc k) (cons v vs) h = each k vs (le-of-suc-le-suc h)
-
 pub log-named : (log : Bytes) (k : ℕ) → isLog log ≡ true → k < length (namesOf log) → isName (getD (namesOf log) k []) ≡ true
-log-named log k e h = valid-name (each k (page-valid log (logged log e .layout)) h)
+log-named log k e h = valid-name (each [] k (page-valid log (logged log e .layout)) h)

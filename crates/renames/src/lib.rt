@@ -9,9 +9,11 @@ ghost use lib.ListN.{length, take, getD};
 ghost use lib.Signed.{nonNeg};
 ghost use Rattle.names.specs.Ordering.{compareRows, isLess, isSame, _≤ⁿ_};
 ghost use Rattle.names.specs.Names.{rowOf, isName, oneBelow, Gives, m, M};
-ghost use Rattle.pages.specs.Pages.{maxSlots, namesOf, rises, isLog};
+ghost use Rattle.slots.specs.Bytes.{every};
+ghost use Rattle.slots.specs.Slots.{nameOf, keepsSlot};
+ghost use Rattle.pages.specs.Pages.{maxSlots, keepsLayout, namesOf, rises, isLog};
 ghost use Rattle.pages.specs.Places.{below, placeOf};
-ghost use Rattle.renaming.specs.Renaming.{firstPosition, lead as leadTuple, N, caseOf, ifBelow, rename as renameRow, under as underRow, over as overRow, backBetween, stripBelow, stripAbove, takeBack as takeBackRow};
+ghost use Rattle.renaming.specs.Renaming.{firstPosition, lead as leadTuple, N, caseOf, ifBelow, rename as renameRow, under as underRow, over as overRow, backBetween, stripBelow, stripAbove, takeBack as takeBackRow, fresh};
 use names::Author;
 use names::Joined;
 use names::LIMIT;
@@ -326,4 +328,35 @@ pub fn take_back_name(log: &[u8], author: Author, c: Name) -> Joined
         return over(pages::name_of(log, last), strip_above(p, author, last, c));
     }
     back_within(log, author, c)
+}
+
+// The name in a slot does not have (A, s) as node and sequence of its first tuple.
+fn is_fresh(slot: &[u8], author: Author) -> bool
+    requires { ⌜ keepsSlot (now slot) ≡ true ⌝ }
+    ensures { λ r. ⌜ r ≡ fresh author (nameOf (now (slot .entry))) ⌝ }
+{
+    let t = slots::read_tuple(slot, HEAD);
+    if t.node != author.node {
+        return true;
+    }
+    t.sequence != author.sequence
+}
+
+// "no name .. has (A, s) as node and sequence of its first tuple", of a page or of a log.
+fn all_fresh(page: &[u8], author: Author) -> bool
+    requires { ⌜ keepsLayout (now page) ≡ true ⌝ }
+    ensures { λ r. ⌜ r ≡ every (fresh author) (namesOf (now (page .entry))) ⌝ }
+{
+    let n = page.len() / SLOT;
+    let mut k: usize = 0;
+    while k < n {
+        let at = SLOT * k;
+        let end = at + SLOT;
+        if is_fresh(&page[at..end], author) {
+            k += 1;
+        } else {
+            return false;
+        }
+    }
+    true
 }
