@@ -4,5 +4,6 @@ pub mod Chosen
 pub mod Given
 pub mod Strips
 pub mod Freshness
+pub mod Turns
 pub mod Carried
 pub mod Books

@@ -63,12 +63,11 @@ of-gap (gap h f g) = (h, f, g)
 
 -- ── by the number of names below ──
 
-pub index : Place → ℕ
+abbrev pub index : Place → ℕ
 index (Here k) = k
 index (Gap k) = k
 
 pub index-is : (x : Row) (l : List Row) → index (placeOf x l) ≡ below x l
-unfolding index
 index-is x l = go (has x l)
   where
     go : (b : Bool) → index (cond b (Here (below x l)) (Gap (below x l))) ≡ below x l
@@ -76,7 +75,6 @@ index-is x l = go (has x l)
     go false = refl
 
 before : {x : Row} {l : List Row} {p : Place} → Rising l → Stands x l p → (i : ℕ) → i < index p → getD l i [] <ⁿ x
-unfolding index
 before o (here {k} h e) i j = rw e at (index-below o i k j h)
 before o (gap h f g) i j = f i j
 
@@ -84,7 +82,6 @@ pub below-before : (x : Row) (l : List Row) → Rising l → (i : ℕ) → i < b
 below-before x l o i h = before o (stands x l o) i (omega (arith, index-is x l))
 
 within : {x : Row} {l : List Row} {p : Place} → Stands x l p → index p ≤ length l
-unfolding index
 within (here h e) = omega arith
 within (gap h f g) = h
 

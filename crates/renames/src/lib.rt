@@ -8,12 +8,13 @@ ghost use lib.IntN.{pos};
 ghost use lib.ListN.{length, take, getD};
 ghost use lib.Signed.{nonNeg};
 ghost use Rattle.names.specs.Ordering.{compareRows, isLess, isSame, _≤ⁿ_};
-ghost use Rattle.names.specs.Names.{rowOf, isName, oneBelow, Gives, m, M};
+ghost use Rattle.names.specs.Names.{rowOf, isName, fits, oneBelow, Gives, m, M};
 ghost use Rattle.slots.specs.Bytes.{every};
-ghost use Rattle.slots.specs.Slots.{nameOf, keepsSlot};
+ghost use Rattle.slots.specs.Slots.{slotSize, nameOf, keepsSlot};
 ghost use Rattle.pages.specs.Pages.{maxSlots, keepsLayout, namesOf, rises, isLog};
 ghost use Rattle.pages.specs.Places.{below, placeOf};
 ghost use Rattle.renaming.specs.Renaming.{firstPosition, lead as leadTuple, N, caseOf, ifBelow, rename as renameRow, under as underRow, over as overRow, backBetween, stripBelow, stripAbove, takeBack as takeBackRow, fresh};
+ghost use Rattle.renames.specs.Renames.{allFit};
 use names::Author;
 use names::Joined;
 use names::LIMIT;
@@ -151,17 +152,32 @@ fn place_from(log: &[u8], x: Name, j: usize) -> Place
     }
 }
 
+// A name renamed, and how many names of the log are below it.
+struct Walked {
+    below: usize,
+    renamed: Joined,
+}
+
+// x renamed, where j names of the log are known to be below it: the walk along the log goes on from there.
+fn walk(log: &[u8], author: Author, x: Name, j: usize) -> Walked
+    requires { ⌜ (isLog (now log) ≡ true) × (j ≤ below (rowOf x) (namesOf (now log))) ⌝ }
+    ensures { λ r. ⌜ (r .below ≡ below (rowOf x) (namesOf (now (log .entry)))) × Gives (r .renamed) (renameRow author (namesOf (now (log .entry))) (rowOf x)) ⌝ }
+{
+    let place = place_from(log, x, j);
+    let renamed = renamed_by(log, author, case_at(log, author, place, x), x);
+    match place {
+        Place::Here(k) => Walked { below: k, renamed },
+        Place::Gap(k) => Walked { below: k, renamed },
+    }
+}
+
 // One name, renamed; it has more than LIMIT tuples where it does not fit.
 pub fn rename_name(log: &[u8], author: Author, x: Name) -> Joined
     requires { ⌜ isLog (now log) ≡ true ⌝ }
     ensures { λ r. ⌜ Gives r (renameRow author (namesOf (now (log .entry))) (rowOf x)) ⌝ }
 {
-    renamed_by(
-        log,
-        author,
-        case_at(log, author, place_from(log, x, 0), x),
-        x,
-    )
+    let w = walk(log, author, x, 0);
+    w.renamed
 }
 
 // A name is below the name of one tuple.
@@ -359,4 +375,49 @@ fn all_fresh(page: &[u8], author: Author) -> bool
         }
     }
     true
+}
+
+// Whether the name in a slot, renamed, has at most LIMIT tuples, and how many names of the log are known to be below it.
+struct Fit {
+    fits: bool,
+    below: usize,
+}
+
+// "a name gains at most one tuple", so only a name of LIMIT tuples is asked for its row.
+fn renamed_fits(log: &[u8], author: Author, slot: &[u8], j: usize) -> Fit
+    requires { ⌜ (isLog (now log) ≡ true) × (length (now slot) ≡ slotSize) × (j ≤ below (nameOf (now slot)) (namesOf (now log))) ⌝ }
+    ensures { λ r. ⌜ (r .fits ≡ fits (renameRow author (namesOf (now (log .entry))) (nameOf (now (slot .entry))))) × (r .below ≤ below (nameOf (now (slot .entry))) (namesOf (now (log .entry)))) ⌝ }
+{
+    if slots::depth(slot) < LIMIT {
+        return Fit { fits: true, below: j };
+    }
+    let w = walk(log, author, slots::read_name(slot), j);
+    let r = w.renamed;
+    Fit {
+        fits: r.fits,
+        below: w.below,
+    }
+}
+
+// Every name of the page, renamed, has at most LIMIT tuples. Page and log are walked side by side.
+fn all_renamed_fit(page: &[u8], log: &[u8], author: Author) -> bool
+    requires { ⌜ (rises (now page) ≡ true) × (isLog (now log) ≡ true) ⌝ }
+    ensures { λ r. ⌜ r ≡ allFit (renameRow author (namesOf (now (log .entry)))) (now (page .entry)) ⌝ }
+{
+    let n = page.len() / SLOT;
+    let mut i: usize = 0;
+    let mut j: usize = 0;
+    loop {
+        if n <= i {
+            break true;
+        }
+        let at = SLOT * i;
+        let end = at + SLOT;
+        let r = renamed_fits(log, author, &page[at..end], j);
+        if r.fits {} else {
+            break false;
+        }
+        j = r.below;
+        i += 1;
+    }
 }

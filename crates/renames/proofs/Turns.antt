@@ -1,0 +1,43 @@
+-- A loop along a page and its log: what a turn says of the tests of results, and how far the log has been walked. Assumes nothing.
+use mathlib.Core.Path.{_≡_, refl, _∙_, sym, ap}
+use mathlib.Core.List.{List, [], map}
+use mathlib.Core.Bool.{Bool, true, _&&_}
+use Prim.Native.Nat.{ℕ, _+_, _*_, _/_, _<_, _≤_}
+use native.Mathlib.Omega.{arith}
+use lib.ListN.{length, getD, drop, length-map, List·getD-map}
+use Rattle.names.specs.Ordering.{Row}
+use Rattle.names.proofs.Laws.{rising-Rising}
+use Rattle.slots.specs.Bytes.{Bytes, every}
+use Rattle.slots.specs.Slots.{slotSize, nameOf}
+use Rattle.slots.proofs.Zeros.{every-at, every-end}
+use Rattle.pages.specs.Pages.{namesOf, rises}
+use Rattle.pages.specs.Places.{below}
+use Rattle.pages.proofs.Parts.{lent, lent-name, length-names}
+use Rattle.pages.proofs.Halving.{index-below}
+use Rattle.renames.proofs.Places.{place-grows}
+
+module _ (page : Bytes) (i : ℕ) (h : i < length page / slotSize) where
+  -- the name of the slot that is lent
+  pub name-lent : nameOf (lent page (slotSize * i)) ≡ getD (namesOf page) i []
+  name-lent = lent-name page (length page / slotSize) i (slotSize * i) refl h
+
+  pub within-names : i < length (namesOf page)
+  within-names = omega (arith, length-names page (length page / slotSize))
+
+  -- the test t of what f makes of name i, and what is left after it
+  pub result-at : (f : Row → Row) (t : Row → Bool) {b : Bool} → b ≡ t (f (getD (namesOf page) i [])) → b && every t (drop (i + 1) (map f (namesOf page))) ≡ every t (drop i (map f (namesOf page)))
+  result-at f t e =
+      let l : i < length (map f (namesOf page)) = omega (arith, length-map (namesOf page) f, within-names) in
+      every-at t (map f (namesOf page)) i (f []) l (e ∙ ap t (sym (List·getD-map f (namesOf page) i [])))
+
+  -- of the log, j names are below name i, and so below the next
+  pub walked : (log : List Row) (j : ℕ) → rises page ≡ true → j ≤ below (getD (namesOf page) i []) log → i + 1 < length page / slotSize → j ≤ below (getD (namesOf page) (i + 1) []) log
+  walked log j r g k =
+      let o = rising-Rising (namesOf page) r in
+      let l : i + 1 < length (namesOf page) = omega (arith, length-names page (length page / slotSize)) in
+      let p = place-grows (getD (namesOf page) i []) (getD (namesOf page) (i + 1) []) log (index-below o i (i + 1) (omega arith) l) in
+      omega arith
+
+-- no name is left
+pub results-end : (page : Bytes) (i : ℕ) (f : Row → Row) (t : Row → Bool) → length page / slotSize ≤ i → true ≡ every t (drop i (map f (namesOf page)))
+results-end page i f t h = every-end t (map f (namesOf page)) i (omega (arith, length-map (namesOf page) f, length-names page (length page / slotSize)))
