@@ -6,4 +6,5 @@ pub mod Strips
 pub mod Freshness
 pub mod Turns
 pub mod Carried
+pub mod Writing
 pub mod Books

@@ -1,20 +1,20 @@
 // Renaming a book and taking a rename back: of one name by value, and of a page. Document 01, "Renaming one name", "Taking it
 // back" and "What comes back"; the definitions are in specs/, and of one name in crates/renaming.
 ghost use mathlib.Core.Path.{_≡_};
-ghost use mathlib.Core.List.{[], _∷_, _++_};
+ghost use mathlib.Core.List.{[], _∷_, _++_, flatten};
 ghost use mathlib.Core.Bool.{true};
-ghost use Prim.Native.Nat.{_-_, _≤_, _<_};
+ghost use Prim.Native.Nat.{_+_, _-_, _≤_, _<_};
 ghost use lib.IntN.{pos};
 ghost use lib.ListN.{length, take, getD};
 ghost use lib.Signed.{nonNeg};
 ghost use Rattle.names.specs.Ordering.{compareRows, isLess, isSame, _≤ⁿ_};
 ghost use Rattle.names.specs.Names.{rowOf, isName, fits, oneBelow, Gives, m, M};
-ghost use Rattle.slots.specs.Bytes.{every};
-ghost use Rattle.slots.specs.Slots.{slotSize, nameOf, keepsSlot};
-ghost use Rattle.pages.specs.Pages.{maxSlots, keepsLayout, namesOf, rises, isLog};
+ghost use Rattle.slots.specs.Bytes.{every, put};
+ghost use Rattle.slots.specs.Slots.{slotSize, nameOf, lineOf, keepsSlot, slotBytes};
+ghost use Rattle.pages.specs.Pages.{maxSlots, keepsLayout, slotsOf, namesOf, pieces, rises, isLog};
 ghost use Rattle.pages.specs.Places.{below, placeOf};
 ghost use Rattle.renaming.specs.Renaming.{firstPosition, lead as leadTuple, N, caseOf, ifBelow, rename as renameRow, under as underRow, over as overRow, backBetween, stripBelow, stripAbove, takeBack as takeBackRow, fresh};
-ghost use Rattle.renames.specs.Renames.{allFit};
+ghost use Rattle.renames.specs.Renames.{carried, allFit};
 use names::Author;
 use names::Joined;
 use names::LIMIT;
@@ -418,6 +418,53 @@ fn all_renamed_fit(page: &[u8], log: &[u8], author: Author) -> bool
             break false;
         }
         j = r.below;
+        i += 1;
+    }
+}
+
+// "Line numbers travel with their names": the slot written from p on has that name, and the given slot's line number.
+fn carry(slot: &[u8], name: Name, out: &mut [u8], p: usize)
+    requires { ⌜ (length (now slot) ≡ slotSize) × (p + slotSize ≤ length (now out)) ⌝ }
+    ensures { λ _. ⌜ now (out .exit) ≡ put (now (out .entry)) p (slotBytes (record { line = lineOf (now (slot .entry)); name = rowOf name })) ⌝ }
+{
+    slots::write_slot(out, p, slots::read_line(slot), name);
+}
+
+// The page renamed, from the start of out. Page and log are walked side by side.
+fn write_renamed(page: &[u8], log: &[u8], author: Author, out: &mut [u8])
+    requires { ⌜ (rises (now page) ≡ true) × (isLog (now log) ≡ true) × (length (now page) ≤ length (now out)) ⌝ }
+    requires { ⌜ allFit (renameRow author (namesOf (now log))) (now page) ≡ true ⌝ }
+    ensures { λ _. ⌜ now (out .exit) ≡ put (now (out .entry)) 0 (flatten (pieces (carried (renameRow author (namesOf (now (log .entry)))) (slotsOf (now (page .entry)))))) ⌝ }
+{
+    let n = page.len() / SLOT;
+    let mut i: usize = 0;
+    let mut j: usize = 0;
+    while i < n {
+        let at = SLOT * i;
+        let end = at + SLOT;
+        let w = walk(log, author, slots::read_name(&page[at..end]), j);
+        let r = w.renamed;
+        let name = r.name;
+        carry(&page[at..end], name, out, at);
+        j = w.below;
+        i += 1;
+    }
+}
+
+// The page taken back, from the start of out.
+fn write_back(page: &[u8], log: &[u8], author: Author, out: &mut [u8])
+    requires { ⌜ (isLog (now log) ≡ true) × (length (now page) ≤ length (now out)) ⌝ }
+    requires { ⌜ allFit (takeBackRow author (namesOf (now log))) (now page) ≡ true ⌝ }
+    ensures { λ _. ⌜ now (out .exit) ≡ put (now (out .entry)) 0 (flatten (pieces (carried (takeBackRow author (namesOf (now (log .entry)))) (slotsOf (now (page .entry)))))) ⌝ }
+{
+    let n = page.len() / SLOT;
+    let mut i: usize = 0;
+    while i < n {
+        let at = SLOT * i;
+        let end = at + SLOT;
+        let r = take_back_name(log, author, slots::read_name(&page[at..end]));
+        let name = r.name;
+        carry(&page[at..end], name, out, at);
         i += 1;
     }
 }

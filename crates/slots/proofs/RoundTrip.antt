@@ -49,6 +49,17 @@ unsigned-signed n h = elim (decLt n 2147483648) [
 next-to : {A : Type 0} (s : List A) (p m n : ℕ) → take m (drop p s) ++ take n (drop (p + m) s) ≡ take (m + n) (drop p s)
 next-to s p m n = ap (λ (l : List _). take m (drop p s) ++ take n l) (sym (drop-drop m p s)) ∙ sym (take-add m n (drop p s))
 
+front-length : (x : Slot) → length (((length (x .name) ∷ 0 ∷ 0 ∷ 0 ∷ []) ++ bytes32 (x .line)) ++ rowBytes (x .name)) ≡ headSize + tupleSize * length (x .name)
+front-length x = length-append ((length (x .name) ∷ 0 ∷ 0 ∷ 0 ∷ []) ++ bytes32 (x .line)) (rowBytes (x .name)) ∙ ap (λ (n : ℕ). headSize + n) (row-length (x .name))
+
+-- a name of at most `limit` tuples fills a slot
+pub slot-length : (x : Slot) → length (x .name) ≤ limit → length (slotBytes x) ≡ slotSize
+unfolding slotBytes
+slot-length x f =
+    let e = front-length x in
+    let z = length-replicate {A = ℕ} (tupleSize * (limit - length (x .name))) 0 in
+    length-append (((length (x .name) ∷ 0 ∷ 0 ∷ 0 ∷ []) ++ bytes32 (x .line)) ++ rowBytes (x .name)) (replicate (tupleSize * (limit - length (x .name))) 0) ∙ omega arith
+
 module _ (s : Bytes) (k : Octets s) where
   here16 : (p : ℕ) → p + 2 ≤ length s → bytes16 (at16 s p) ≡ take 2 (drop p s)
   here16 p h =
@@ -283,23 +294,15 @@ module _ (x : Slot) (h : isSlot x ≡ true) where
   pub slot-back : slotOf (slotBytes x) ≡ x
   slot-back = λ i. record { line = line-back i; name = name-back i }
 
-  front-length : length (((length (x .name) ∷ 0 ∷ 0 ∷ 0 ∷ []) ++ bytes32 (x .line)) ++ rowBytes (x .name)) ≡ headSize + tupleSize * length (x .name)
-  front-length = length-append ((length (x .name) ∷ 0 ∷ 0 ∷ 0 ∷ []) ++ bytes32 (x .line)) (rowBytes (x .name)) ∙ ap (λ (n : ℕ). headSize + n) (row-length (x .name))
-
   pub encoded-length : length (slotBytes x) ≡ slotSize
-  unfolding slotBytes
-  encoded-length =
-      let f = fit in
-      let e = front-length in
-      let z = length-replicate {A = ℕ} (tupleSize * (limit - length (x .name))) 0 in
-      length-append (((length (x .name) ∷ 0 ∷ 0 ∷ 0 ∷ []) ++ bytes32 (x .line)) ++ rowBytes (x .name)) (replicate (tupleSize * (limit - length (x .name))) 0) ∙ omega arith
+  encoded-length = slot-length x fit
 
   pub encoded-keeps : keepsSlot (slotBytes x) ≡ true
   unfolding keepsSlot slotBytes
   encoded-keeps =
       let f = fit in
       let n = name-long (x .name) named in
-      let r = ap allZero (drop-at (((length (x .name) ∷ 0 ∷ 0 ∷ 0 ∷ []) ++ bytes32 (x .line)) ++ rowBytes (x .name)) (replicate (tupleSize * (limit - length (x .name))) 0) (headSize + tupleSize * length (x .name)) front-length) ∙ zeros-zero (tupleSize * (limit - length (x .name))) in
+      let r = ap allZero (drop-at (((length (x .name) ∷ 0 ∷ 0 ∷ 0 ∷ []) ++ bytes32 (x .line)) ++ rowBytes (x .name)) (replicate (tupleSize * (limit - length (x .name))) 0) (headSize + tupleSize * length (x .name)) (front-length x)) ∙ zeros-zero (tupleSize * (limit - length (x .name))) in
       λ i.
       eq-eqb (length (slotBytes x)) slotSize encoded-length i
       && (le-leb 1 (length (x .name)) n i && le-leb (length (x .name)) limit f i)
