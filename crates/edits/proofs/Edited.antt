@@ -4,22 +4,22 @@ use mathlib.Core.List.{List, _∷_, _++_, flatten}
 use mathlib.Core.Bool.{Bool, true, false}
 use Prim.Native.Nat.{ℕ, suc, _+_, _-_, _*_, _/_, _<_, _≤_}
 use native.Mathlib.Omega.{arith}
-use borrow.Author.Tests.{lt-ltb, le-ltb, le-leb, lt-leb}
+use borrow.Author.Tests.{lt-ltb, le-ltb}
 use lib.ListN.{length, take, drop, length-append, length-take, length-drop, length-map}
 use Rattle.names.proofs.Laws.{rising-Rising}
-use Rattle.slots.specs.Bytes.{Bytes, Octets, put}
+use Rattle.slots.specs.Bytes.{Bytes, Octets}
 use Rattle.slots.specs.Slots.{Slot, slotSize, nameOf, slotOf, keepsSlot, slotBytes}
 use Rattle.slots.proofs.RoundTrip.{kept}
-use Rattle.pages.specs.Answers.{Outcome, ask, refuse, write, leaves}
+use Rattle.pages.specs.Answers.{Outcome, ask, refuse}
 use Rattle.pages.specs.Pages.{maxSlots, slotsOf, namesOf, pieces, keepsLayout, rises}
 use Rattle.pages.specs.Places.{below, has, placeOf}
 use Rattle.pages.specs.declared.Place.{Place}
 use Rattle.pages.specs.declared.Place.the-variants.{Here, Gap}
-use Rattle.pages.specs.declared.Answer.the-variants.{Accepted, Refused}
+use Rattle.pages.specs.declared.Answer.the-variants.{Accepted}
 use Rattle.pages.specs.declared.Refusal.{Refusal}
 use Rattle.pages.specs.declared.Refusal.the-variants.{BadLayout, NotRising, Short, Present, Absent, Full}
 use Rattle.pages.proofs.Parts.{length-slots, length-names}
-use Rattle.pages.proofs.Outcomes.{refused-leaves}
+use Rattle.pages.proofs.Outcomes.{writes-short, writes}
 use Rattle.pages.proofs.RoundTrip.{laid}
 use Rattle.edits.specs.declared.Checked.the-variants.{Refused as NotChecked, Found}
 use Rattle.edits.specs.Edits.{placed, without, askEdit, insertion, removal}
@@ -57,23 +57,6 @@ module _ (page slot : Bytes) (p : Place) where
       go true true false e = is NotRising e
       go true false c e = is BadLayout e
       go false b c e = is BadLayout e
-
--- ── an outcome as a call leaves it ──
-
-pub refused : (x : Outcome) (r : Refusal) (o : Bytes) → x ≡ refuse r → (Refused r ≡ x .answer) × (o ≡ leaves x o)
-refused x r o e = (sym (ap (λ (y : Outcome). y .answer) e), sym (refused-leaves r o) ∙ sym (ap (λ (y : Outcome). leaves y o) e))
-
-pub accepted : (x : Outcome) (n : ℕ) (w o e : Bytes) → x ≡ record { answer = Accepted n; bytes = w } → e ≡ put o 0 w → (Accepted n ≡ x .answer) × (e ≡ leaves x o)
-accepted x n w o e q f = (sym (ap (λ (y : Outcome). y .answer) q), f ∙ sym (ap (λ (y : Outcome). leaves y o) q))
-
--- 8, or the bytes
-writes-short : (l : List Bytes) (room : ℕ) → room < length (flatten l) → write l room ≡ refuse Short
-writes-short l room h = rw (lt-leb (length (flatten l)) room h)
-
-writes : (l : List Bytes) (room n : ℕ) (w : Bytes) → length l ≡ n → flatten l ≡ w → length w ≤ room → write l room ≡ record { answer = Accepted n; bytes = w }
-writes l room n w p q h =
-    let k : length (flatten l) ≤ room = rw q h in
-    rw (le-leb (length (flatten l)) room k) (λ i. record { answer = Accepted (p i); bytes = q i })
 
 -- ── insert ──
 

@@ -1,17 +1,18 @@
 -- What an outcome leaves in an output: a refusal every byte as it was; an accepted call its bytes from the start, nothing after
--- them changed, and of slots as many as its count says. What an accepted outcome says of itself: `no-answer`, `write-accepted`; and
--- a page that is written as it is: `page-again`. Assumes nothing.
-use mathlib.Core.Path.{_≡_, refl, _∙_, ap}
+-- them changed, and of slots as many as its count says. What an accepted outcome says of itself: `no-answer`, `write-accepted`;
+-- a page that is written as it is: `page-again`; and an outcome as a call meets it: `refused`, `accepted`, `writes-short`, `writes`.
+-- Assumes nothing.
+use mathlib.Core.Path.{_≡_, refl, _∙_, sym, ap}
 use mathlib.Core.List.{List, _++_, flatten}
-use Prim.Native.Nat.{ℕ, _*_, _≤_}
+use Prim.Native.Nat.{ℕ, _*_, _<_, _≤_}
 use mathlib.Core.Bool.{Bool, true, false}
 use native.Mathlib.Nat.{zero-add}
 use native.Mathlib.Omega.{arith}
-use borrow.Author.Tests.{le-leb}
+use borrow.Author.Tests.{le-leb, lt-leb}
 use lib.Dec.{leb}
 use lib.ListN.{length, take, drop, length-map}
 use lib.Seq.{take-append-seam, drop-append-seam}
-use Rattle.slots.specs.Bytes.{Bytes, Octets, every}
+use Rattle.slots.specs.Bytes.{Bytes, Octets, every, put}
 use Rattle.slots.specs.Slots.{Slot, slotSize, slotBytes, isSlot}
 use Rattle.slots.proofs.Put.{put-length}
 use Rattle.pages.specs.declared.Refusal.{Refusal}
@@ -64,3 +65,20 @@ page-again s k e room h =
     let f : length (flatten (pieces (slotsOf s))) ≤ room = rw b h in
     let c = length-map (slotsOf s) slotBytes in
     rw (le-leb (length (flatten (pieces (slotsOf s)))) room f) (λ i. record { answer = Accepted (c i); bytes = b i })
+
+-- ── an outcome as a call leaves it ──
+
+pub refused : (x : Outcome) (r : Refusal) (o : Bytes) → x ≡ refuse r → (Refused r ≡ x .answer) × (o ≡ leaves x o)
+refused x r o e = (sym (ap (λ (y : Outcome). y .answer) e), sym (refused-leaves r o) ∙ sym (ap (λ (y : Outcome). leaves y o) e))
+
+pub accepted : (x : Outcome) (n : ℕ) (w o e : Bytes) → x ≡ record { answer = Accepted n; bytes = w } → e ≡ put o 0 w → (Accepted n ≡ x .answer) × (e ≡ leaves x o)
+accepted x n w o e q f = (sym (ap (λ (y : Outcome). y .answer) q), f ∙ sym (ap (λ (y : Outcome). leaves y o) q))
+
+-- 8, or the bytes
+pub writes-short : (l : List Bytes) (room : ℕ) → room < length (flatten l) → write l room ≡ refuse Short
+writes-short l room h = rw (lt-leb (length (flatten l)) room h)
+
+pub writes : (l : List Bytes) (room n : ℕ) (w : Bytes) → length l ≡ n → flatten l ≡ w → length w ≤ room → write l room ≡ record { answer = Accepted n; bytes = w }
+writes l room n w p q h =
+    let k : length (flatten l) ≤ room = rw q h in
+    rw (le-leb (length (flatten l)) room k) (λ i. record { answer = Accepted (p i); bytes = q i })

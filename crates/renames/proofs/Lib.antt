@@ -8,3 +8,4 @@ pub mod Turns
 pub mod Carried
 pub mod Writing
 pub mod Books
+pub mod Checks

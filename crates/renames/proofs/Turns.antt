@@ -1,12 +1,17 @@
 -- A loop along a page and its log: what a turn says of the tests of results, and how far the log has been walked. Assumes nothing.
 use mathlib.Core.Path.{_≡_, refl, _∙_, sym, ap}
-use mathlib.Core.List.{List, [], map}
-use mathlib.Core.Bool.{Bool, true, _&&_}
+use mathlib.Core.List.{List, [], _∷_, map}
+use mathlib.Core.Bool.{Bool, true, false, _&&_, and-true}
 use Prim.Native.Nat.{ℕ, _+_, _*_, _/_, _<_, _≤_}
+use native.Mathlib.Numerals.{add-one}
 use native.Mathlib.Omega.{arith}
-use lib.ListN.{length, getD, drop, length-map, List·getD-map}
-use Rattle.names.specs.Ordering.{Row}
-use Rattle.names.proofs.Laws.{rising-Rising}
+use lib.ListN.{length, getD, drop, length-map, drop-of-length-le, List·getD-map}
+use lib.Seq.{drop-cons}
+use Rattle.names.specs.Ordering.{Row, compareRows, isLess, rising}
+use Rattle.names.proofs.Laws.{rising-Rising, row-less}
+use Rattle.names.proofs.Validity.{Valid}
+use Rattle.renaming.proofs.Validity.{valid-nonempty}
+use Rattle.renaming.proofs.Lists.{All, nil, cons}
 use Rattle.slots.specs.Bytes.{Bytes, every}
 use Rattle.slots.specs.Slots.{slotSize, nameOf}
 use Rattle.slots.proofs.Zeros.{every-at, every-end}
@@ -41,3 +46,36 @@ module _ (page : Bytes) (i : ℕ) (h : i < length page / slotSize) where
 -- no name is left
 pub results-end : (page : Bytes) (i : ℕ) (f : Row → Row) (t : Row → Bool) → length page / slotSize ≤ i → true ≡ every t (drop i (map f (namesOf page)))
 results-end page i f t h = every-end t (map f (namesOf page)) i (omega (arith, length-map (namesOf page) f, length-names page (length page / slotSize)))
+
+-- ── results that rise ──
+
+rising-cons : (a b : Row) (l : List Row) → rising (a ∷ b ∷ l) ≡ isLess (compareRows a b) && rising (b ∷ l)
+unfolding rising
+rising-cons a b l = refl
+
+and-join : (a b d : Bool) → (a && b) && d ≡ a && (b && d)
+and-join true b d = refl
+and-join false b d = refl
+
+-- the result before result i is x, and b says whether x is below it and it went so before
+pub rising-turn : (page : Bytes) (i : ℕ) → i < length page / slotSize → (f : Row → Row) (went b : Bool) (x y : Row) → y ≡ f (getD (namesOf page) i []) → b ≡ (went && isLess (compareRows x y)) → b && rising (y ∷ drop (i + 1) (map f (namesOf page))) ≡ went && rising (x ∷ drop i (map f (namesOf page)))
+rising-turn page i h f went b x y e q =
+    let all = map f (namesOf page) in
+    let l : i < length all = omega (arith, length-map (namesOf page) f, within-names page i h) in
+    let r : getD all i (f []) ≡ y = List·getD-map f (namesOf page) i [] ∙ sym e in
+    let d : drop i all ≡ y ∷ drop (i + 1) all = drop-cons all i (f []) l ∙ (λ k. r k ∷ drop (sym (add-one i) k) all) in
+    ap (λ (t : Bool). t && rising (y ∷ drop (i + 1) all)) q
+    ∙ and-join went (isLess (compareRows x y)) (rising (y ∷ drop (i + 1) all))
+    ∙ ap (λ (t : Bool). went && t) (sym (ap (λ (m : List Row). rising (x ∷ m)) d ∙ rising-cons x y (drop (i + 1) all)))
+
+pub rising-ends : (page : Bytes) (i : ℕ) → length page / slotSize ≤ i → (f : Row → Row) (went : Bool) (x : Row) → went ≡ went && rising (x ∷ drop i (map f (namesOf page)))
+unfolding rising
+rising-ends page i h f went x =
+    let e = drop-of-length-le (map f (namesOf page)) {i = i} (omega (arith, length-map (namesOf page) f, length-names page (length page / slotSize))) in
+    sym (ap (λ (m : List Row). went && rising (x ∷ m)) e ∙ and-true went)
+
+-- before the first there is none
+pub rising-first : (l : List Row) → All Valid l → rising ([] ∷ l) ≡ rising l
+unfolding rising
+rising-first [] nil = refl
+rising-first (x ∷ l) (cons v vs) = rw (row-less (valid-nonempty v))

@@ -1,20 +1,21 @@
 // Renaming a book and taking a rename back: of one name by value, and of a page. Document 01, "Renaming one name", "Taking it
 // back" and "What comes back"; the definitions are in specs/, and of one name in crates/renaming.
 ghost use mathlib.Core.Path.{_≡_};
-ghost use mathlib.Core.List.{[], _∷_, _++_, flatten};
-ghost use mathlib.Core.Bool.{true};
+ghost use mathlib.Core.List.{[], _∷_, _++_, flatten, map};
+ghost use mathlib.Core.Bool.{true, _&&_};
 ghost use Prim.Native.Nat.{_+_, _-_, _≤_, _<_};
 ghost use lib.IntN.{pos};
 ghost use lib.ListN.{length, take, getD};
 ghost use lib.Signed.{nonNeg};
-ghost use Rattle.names.specs.Ordering.{compareRows, isLess, isSame, _≤ⁿ_};
+ghost use Rattle.names.specs.Ordering.{compareRows, isLess, isSame, rising, _≤ⁿ_};
 ghost use Rattle.names.specs.Names.{rowOf, isName, fits, oneBelow, Gives, m, M};
 ghost use Rattle.slots.specs.Bytes.{every, put};
 ghost use Rattle.slots.specs.Slots.{slotSize, nameOf, lineOf, keepsSlot, slotBytes};
 ghost use Rattle.pages.specs.Pages.{maxSlots, keepsLayout, slotsOf, namesOf, pieces, rises, isLog};
+ghost use Rattle.pages.specs.Answers.{ask};
 ghost use Rattle.pages.specs.Places.{below, placeOf};
 ghost use Rattle.renaming.specs.Renaming.{firstPosition, lead as leadTuple, N, caseOf, ifBelow, rename as renameRow, under as underRow, over as overRow, backBetween, stripBelow, stripAbove, takeBack as takeBackRow, fresh};
-ghost use Rattle.renames.specs.Renames.{carried, allFit};
+ghost use Rattle.renames.specs.Renames.{carried, allFit, askRename};
 use names::Author;
 use names::Joined;
 use names::LIMIT;
@@ -465,6 +466,83 @@ fn write_back(page: &[u8], log: &[u8], author: Author, out: &mut [u8])
         let r = take_back_name(log, author, slots::read_name(&page[at..end]));
         let name = r.name;
         carry(&page[at..end], name, out, at);
+        i += 1;
+    }
+}
+
+// What stands before a rename or a taking back: a refusal, or none so far.
+enum Checked {
+    Refused(Refusal),
+    Passed,
+}
+
+// 1, 2, 3, 4.
+fn check(page: &[u8], log: &[u8], author: Author) -> Checked
+    ensures { λ r. ⌜ r ≡ askRename (now (page .entry)) (now (log .entry)) author Checked.Refused Checked.Passed ⌝ }
+{
+    if pages::page_ok(page) {
+        if pages::page_rises(page) {
+            if pages::log_ok(log) {
+                if author.node < 1 {
+                    return Checked::Refused(Refusal::NoAuthor);
+                }
+                Checked::Passed
+            } else {
+                Checked::Refused(Refusal::BadLog)
+            }
+        } else {
+            Checked::Refused(Refusal::NotRising)
+        }
+    } else {
+        Checked::Refused(Refusal::BadLayout)
+    }
+}
+
+// a is below b, and so it went before.
+fn still_rises(rises: bool, a: Name, b: Name) -> bool
+    ensures { λ r. ⌜ r ≡ (rises && isLess (compareRows (rowOf a) (rowOf b))) ⌝ }
+{
+    if rises {
+        match names::compare(a, b) {
+            Order::Less => true,
+            Order::Same => false,
+            Order::More => false,
+        }
+    } else {
+        false
+    }
+}
+
+// 7, where the results do not rise.
+fn check_rising(rises: bool) -> Checked
+    ensures { λ r. ⌜ r ≡ ask rises (Checked.Refused Refusal.NotRisingBack) Checked.Passed ⌝ }
+{
+    if rises {
+        return Checked::Passed;
+    }
+    Checked::Refused(Refusal::NotRisingBack)
+}
+
+// 6 of every name, and then 7: one walk along the page, which keeps the result before.
+fn check_back(page: &[u8], log: &[u8], author: Author) -> Checked
+    requires { ⌜ askRename (now page) (now log) author Checked.Refused Checked.Passed ≡ Checked.Passed ⌝ }
+    ensures { λ r. ⌜ r ≡ ask (allFit (takeBackRow author (namesOf (now (log .entry)))) (now (page .entry))) (Checked.Refused Refusal.TooDeep) (ask (rising (map (takeBackRow author (namesOf (now (log .entry)))) (namesOf (now (page .entry))))) (Checked.Refused Refusal.NotRisingBack) Checked.Passed) ⌝ }
+{
+    let n = page.len() / SLOT;
+    let mut last = names::empty();
+    let mut rises = true;
+    let mut i: usize = 0;
+    loop {
+        if n <= i {
+            break check_rising(rises);
+        }
+        let r = take_back_name(log, author, pages::name_of(page, i));
+        if r.fits {} else {
+            break Checked::Refused(Refusal::TooDeep);
+        }
+        let name = r.name;
+        rises = still_rises(rises, last, name);
+        last = name;
         i += 1;
     }
 }

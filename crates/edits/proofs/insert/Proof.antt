@@ -5,7 +5,8 @@ use Rattle.slots.specs.Slots.{nameOf}
 use Rattle.pages.specs.Pages.{namesOf}
 use Rattle.pages.specs.Places.{placeOf}
 use Rattle.edits.specs.declared.Checked.the-variants.{Found}
-use Rattle.edits.proofs.Edited.{found, refused, insert-refused, insert-present}
+use Rattle.pages.proofs.Outcomes.{refused}
+use Rattle.edits.proofs.Edited.{found, insert-refused, insert-present}
 use borrow.Author.Needs.{needs}
 use Rattle.edits.proofs.insert.Statement.{statement}
 use Rattle.edits.proofs.insert.Tie as tie

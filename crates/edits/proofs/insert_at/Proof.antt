@@ -6,7 +6,8 @@ use Rattle.slots.specs.Slots.{nameOf}
 use Rattle.pages.specs.Pages.{namesOf}
 use Rattle.pages.specs.Places.{placeOf}
 use Rattle.pages.specs.declared.Place.the-variants.{Gap}
-use Rattle.edits.proofs.Edited.{found, refused, accepted, gap-within, slot-long, insert-full, insert-short, insert-done}
+use Rattle.pages.proofs.Outcomes.{refused, accepted}
+use Rattle.edits.proofs.Edited.{found, gap-within, slot-long, insert-full, insert-short, insert-done}
 use borrow.Author.Needs.{needs}
 use Rattle.edits.proofs.insert_at.Statement.{statement}
 use Rattle.edits.proofs.insert_at.Tie as tie

@@ -5,7 +5,8 @@ use Rattle.slots.specs.Slots.{nameOf}
 use Rattle.pages.specs.Pages.{namesOf}
 use Rattle.pages.specs.Places.{placeOf}
 use Rattle.edits.specs.declared.Checked.the-variants.{Found}
-use Rattle.edits.proofs.Edited.{found, refused, remove-refused, remove-absent}
+use Rattle.pages.proofs.Outcomes.{refused}
+use Rattle.edits.proofs.Edited.{found, remove-refused, remove-absent}
 use borrow.Author.Needs.{needs}
 use Rattle.edits.proofs.remove.Statement.{statement}
 use Rattle.edits.proofs.remove.Tie as tie

@@ -6,7 +6,8 @@ use Rattle.slots.specs.Slots.{nameOf}
 use Rattle.pages.specs.Pages.{namesOf}
 use Rattle.pages.specs.Places.{placeOf}
 use Rattle.pages.specs.declared.Place.the-variants.{Here}
-use Rattle.edits.proofs.Edited.{found, refused, accepted, here-within, whole-page, remove-short, remove-done}
+use Rattle.pages.proofs.Outcomes.{refused, accepted}
+use Rattle.edits.proofs.Edited.{found, here-within, whole-page, remove-short, remove-done}
 use borrow.Author.Needs.{needs}
 use Rattle.edits.proofs.remove_at.Statement.{statement}
 use Rattle.edits.proofs.remove_at.Tie as tie
