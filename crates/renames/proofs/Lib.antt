@@ -9,3 +9,4 @@ pub mod Carried
 pub mod Writing
 pub mod Books
 pub mod Checks
+pub mod Done

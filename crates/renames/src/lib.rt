@@ -12,10 +12,10 @@ ghost use Rattle.names.specs.Names.{rowOf, isName, fits, oneBelow, Gives, m, M}
 ghost use Rattle.slots.specs.Bytes.{every, put};
 ghost use Rattle.slots.specs.Slots.{slotSize, nameOf, lineOf, keepsSlot, slotBytes};
 ghost use Rattle.pages.specs.Pages.{maxSlots, keepsLayout, slotsOf, namesOf, pieces, rises, isLog};
-ghost use Rattle.pages.specs.Answers.{ask};
+ghost use Rattle.pages.specs.Answers.{ask, leaves};
 ghost use Rattle.pages.specs.Places.{below, placeOf};
 ghost use Rattle.renaming.specs.Renaming.{firstPosition, lead as leadTuple, N, caseOf, ifBelow, rename as renameRow, under as underRow, over as overRow, backBetween, stripBelow, stripAbove, takeBack as takeBackRow, fresh};
-ghost use Rattle.renames.specs.Renames.{carried, allFit, askRename};
+ghost use Rattle.renames.specs.Renames.{carried, allFit, askRename, renaming, takingBack};
 use names::Author;
 use names::Joined;
 use names::LIMIT;
@@ -544,5 +544,73 @@ fn check_back(page: &[u8], log: &[u8], author: Author) -> Checked
         rises = still_rises(rises, last, name);
         last = name;
         i += 1;
+    }
+}
+
+// 5, 6, 8; else the page renamed. Nothing is written before every refusal is ruled out.
+fn rename_checked(page: &[u8], log: &[u8], author: Author, out: &mut [u8]) -> Answer
+    requires { ⌜ askRename (now page) (now log) author Checked.Refused Checked.Passed ≡ Checked.Passed ⌝ }
+    ensures { λ r. ⌜ r ≡ renaming (now (page .entry)) (now (log .entry)) author (length (now (out .entry))) .answer ⌝ }
+    ensures { λ r. ⌜ now (out .exit) ≡ leaves (renaming (now (page .entry)) (now (log .entry)) author (length (now (out .entry)))) (now (out .entry)) ⌝ }
+{
+    if all_fresh(page, author) {
+        if all_fresh(log, author) {
+            if all_renamed_fit(page, log, author) {
+                if out.len() < page.len() {
+                    return Answer::Refused(Refusal::Short);
+                }
+                write_renamed(page, log, author, out);
+                Answer::Accepted(page.len() / SLOT)
+            } else {
+                Answer::Refused(Refusal::TooDeep)
+            }
+        } else {
+            Answer::Refused(Refusal::NotFresh)
+        }
+    } else {
+        Answer::Refused(Refusal::NotFresh)
+    }
+}
+
+// 6, 7, 8; else the page taken back. Nothing is written before every refusal is ruled out.
+fn take_back_checked(page: &[u8], log: &[u8], author: Author, out: &mut [u8]) -> Answer
+    requires { ⌜ askRename (now page) (now log) author Checked.Refused Checked.Passed ≡ Checked.Passed ⌝ }
+    ensures { λ r. ⌜ r ≡ takingBack (now (page .entry)) (now (log .entry)) author (length (now (out .entry))) .answer ⌝ }
+    ensures { λ r. ⌜ now (out .exit) ≡ leaves (takingBack (now (page .entry)) (now (log .entry)) author (length (now (out .entry)))) (now (out .entry)) ⌝ }
+{
+    let checked = check_back(page, log, author);
+    match checked {
+        Checked::Refused(r) => Answer::Refused(r),
+        Checked::Passed => {
+            if out.len() < page.len() {
+                return Answer::Refused(Refusal::Short);
+            }
+            write_back(page, log, author, out);
+            Answer::Accepted(page.len() / SLOT)
+        }
+    }
+}
+
+// 1, 2, 3, 4, 5, 6, 8; else the page with its names renamed.
+pub fn rename(page: &[u8], log: &[u8], author: Author, out: &mut [u8]) -> Answer
+    ensures { λ r. ⌜ r ≡ renaming (now (page .entry)) (now (log .entry)) author (length (now (out .entry))) .answer ⌝ }
+    ensures { λ r. ⌜ now (out .exit) ≡ leaves (renaming (now (page .entry)) (now (log .entry)) author (length (now (out .entry)))) (now (out .entry)) ⌝ }
+{
+    let checked = check(page, log, author);
+    match checked {
+        Checked::Refused(r) => Answer::Refused(r),
+        Checked::Passed => rename_checked(page, log, author, out),
+    }
+}
+
+// 1, 2, 3, 4, 6, 7, 8; else the page with its names taken back. "Taking back asks for no freshness."
+pub fn take_back(page: &[u8], log: &[u8], author: Author, out: &mut [u8]) -> Answer
+    ensures { λ r. ⌜ r ≡ takingBack (now (page .entry)) (now (log .entry)) author (length (now (out .entry))) .answer ⌝ }
+    ensures { λ r. ⌜ now (out .exit) ≡ leaves (takingBack (now (page .entry)) (now (log .entry)) author (length (now (out .entry)))) (now (out .entry)) ⌝ }
+{
+    let checked = check(page, log, author);
+    match checked {
+        Checked::Refused(r) => Answer::Refused(r),
+        Checked::Passed => take_back_checked(page, log, author, out),
     }
 }
