@@ -4,6 +4,7 @@ ghost use lib.ListN.{length};
 ghost use Rattle.slots.specs.Slots.{slotSize};
 use crate::text::NAMES;
 use crate::text::after_word;
+use crate::text::after_words;
 use crate::text::answer;
 use crate::text::byte;
 use crate::text::first;
@@ -14,6 +15,7 @@ use crate::text::put_all;
 use crate::text::say;
 use crate::text::show;
 use libc::STDOUT_FILENO;
+use names::Author;
 use pages::PAGE;
 use pages::Place;
 use slots::HEAD;
@@ -185,6 +187,96 @@ fn ask(page: &[u8], gap: usize, node: u16) {
     }
 }
 
+// A rename, or a taking back; a page that it wrote is shown.
+fn renamed(back: bool, page: &[u8], log: &[u8], author: Author, out: &mut [u8]) -> usize {
+    if back {
+        let a = renames::take_back(page, log, author, out);
+        answer(a);
+        return pages::count(a);
+    }
+    let a = renames::rename(page, log, author, out);
+    answer(a);
+    pages::count(a)
+}
+
+fn renamed_within(
+    back: bool,
+    page: &[u8],
+    log: &[u8],
+    author: Author,
+    out: &mut [u8],
+    room: usize,
+) -> usize {
+    if room <= out.len() {
+        return renamed(back, page, log, author, &mut out[..room]);
+    }
+    renamed(back, page, log, author, out)
+}
+
+// The page of the names from a place on, with that log.
+fn with_log(text: &[u8], at: usize, back: bool, log: &[u8], author: Author, room: usize) {
+    let mut page = [0u8; NAMES * SLOT];
+    let n = put_all(&mut page, text, at, true, 0);
+    let mut out = [170u8; NAMES * SLOT];
+    let count = renamed_within(back, first(&page, SLOT * n), log, author, &mut out, room);
+    if 0 < count {
+        if count <= NAMES {
+            show(first(&out, SLOT * count));
+        }
+    }
+}
+
+// The author that stands at a place, and the place after it.
+struct By {
+    author: Author,
+    next: usize,
+}
+
+fn author_at(text: &[u8], at: usize) -> By {
+    let node = number(text, at);
+    let sequence = number(text, node.next);
+    let author = Author {
+        node: (node.value % 65536) as u16,
+        sequence: sequence.value,
+    };
+    By {
+        author,
+        next: sequence.next,
+    }
+}
+
+fn rename_case(text: &[u8], at: usize, back: bool) {
+    let room = number(text, at);
+    let by = author_at(text, room.next);
+    let n = number(text, by.next);
+    let k = n.value as usize;
+    if k <= NAMES {
+        let mut log = [0u8; NAMES * SLOT];
+        put_all(&mut log, text, n.next, false, 0);
+        let author = by.author;
+        with_log(
+            text,
+            after_words(text, n.next, k),
+            back,
+            first(&log, SLOT * k),
+            author,
+            room.value as usize,
+        );
+    }
+}
+
+fn long_case(text: &[u8], at: usize, back: bool) {
+    let n = number(text, at);
+    let by = author_at(text, n.next);
+    let k = n.value as usize;
+    if k <= 257 {
+        let mut log = [0u8; 257 * SLOT];
+        fill(&mut log, 257);
+        let author = by.author;
+        with_log(text, by.next, back, first(&log, SLOT * k), author, PAGE);
+    }
+}
+
 fn check_case(text: &[u8], at: usize, word: u8) {
     match word {
         b's' => slot_case(text, at),
@@ -196,6 +288,16 @@ fn check_case(text: &[u8], at: usize, word: u8) {
     }
 }
 
+fn rename_or_check(text: &[u8], at: usize, word: u8) {
+    match word {
+        b'R' => rename_case(text, at, false),
+        b'T' => rename_case(text, at, true),
+        b'L' => long_case(text, at, false),
+        b'w' => long_case(text, at, true),
+        _ => check_case(text, at, word),
+    }
+}
+
 fn call_case(text: &[u8], at: usize, word: u8) {
     match word {
         b'f' => find_case(text, at),
@@ -204,7 +306,27 @@ fn call_case(text: &[u8], at: usize, word: u8) {
         b'a' => many_case(text, at, true),
         b'd' => many_case(text, at, false),
         b'n' => new_case(text, at),
-        _ => check_case(text, at, word),
+        _ => rename_or_check(text, at, word),
+    }
+}
+
+// The letter that tells a line's kind: its first, or a capital where another word begins with it.
+fn kind(text: &[u8], at: usize) -> u8
+    requires { ⌜ at ≤ length (now text) ⌝ }
+{
+    let word = byte(text, at);
+    match byte(text, at + 2) {
+        b'n' => {
+            if word == b'r' {
+                return b'R';
+            }
+            if word == b'l' {
+                return b'L';
+            }
+            word
+        }
+        b'k' => b'T',
+        _ => word,
     }
 }
 
@@ -213,8 +335,8 @@ fn run(text: &[u8], at: usize, end: usize) {
     if at <= end {
         if end <= text.len() {
             io::write_all(STDOUT_FILENO, &text[at..end]);
-            let word = byte(text, at);
-            if word == b'#' {
+            let word = kind(text, at);
+            if byte(text, at) == b'#' {
                 io::write_all(STDOUT_FILENO, b"\n");
             } else {
                 call_case(text, after_word(text, at), word);

@@ -14,6 +14,10 @@
 //   add N AT ROOM              insert of (9, 2, AT, 0) into a page of N slots (9, 2, 0, 0), (9, 2, 1, 0), ..
 //   drop N AT ROOM             remove of it
 //   new GAP NODE NAME ..       a new name by the author (NODE, 11) in a page of these names
+//   rename ROOM NODE SEQUENCE N NAME ..   rename by the author (NODE, SEQUENCE): the first N names are the log, the others the page
+//   take ROOM NODE SEQUENCE N NAME ..     taking back, likewise
+//   long N NODE SEQUENCE NAME ..          rename with a log of N slots (9, 2, 0, 0), (9, 2, 1, 0), ..
+//   wide N NODE SEQUENCE NAME ..          taking back, likewise
 //
 // A name is written as the listing shows it.
 mod asked;
@@ -22,7 +26,7 @@ mod text;
 use libc::STDIN_FILENO;
 
 fn main() {
-    let mut script = [0u8; 16384];
+    let mut script = [0u8; 32768];
     let n = io::read_full(STDIN_FILENO, &mut script);
     asked::run_all(&script[..n]);
 }

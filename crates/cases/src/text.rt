@@ -50,6 +50,17 @@ pub(crate) fn after_word(text: &[u8], at: usize) -> usize {
     after(text, i)
 }
 
+// The place after n words.
+pub(crate) fn after_words(text: &[u8], at: usize, n: usize) -> usize {
+    let mut i = at;
+    let mut k: usize = 0;
+    while k < n {
+        i = after_word(text, i);
+        k += 1;
+    }
+    i
+}
+
 // The end of the line that begins at a place.
 pub(crate) fn line_end(text: &[u8], at: usize) -> usize
     requires { ⌜ at ≤ length (now text) ⌝ }

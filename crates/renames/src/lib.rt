@@ -390,7 +390,10 @@ fn renamed_fits(log: &[u8], author: Author, slot: &[u8], j: usize) -> Fit
     ensures { λ r. ⌜ (r .fits ≡ fits (renameRow author (namesOf (now (log .entry))) (nameOf (now (slot .entry))))) × (r .below ≤ below (nameOf (now (slot .entry))) (namesOf (now (log .entry)))) ⌝ }
 {
     if slots::depth(slot) < LIMIT {
-        return Fit { fits: true, below: j };
+        return Fit {
+            fits: true,
+            below: j,
+        };
     }
     let w = walk(log, author, slots::read_name(slot), j);
     let r = w.renamed;
