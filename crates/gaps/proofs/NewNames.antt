@@ -19,7 +19,7 @@ use Rattle.names.specs.declared.Order.the-variants.{Less, Same, More}
 use Rattle.names.specs.Ordering.{Row, compareTuples, isSame, _<ᶻ_, up, across, _<ᵗ_, position, _<ⁿ_, ends, differ, Rising}
 use Rattle.names.specs.Names.{fits, isName, lowered}
 use Rattle.names.proofs.Laws.{Before, prefix, apart, before, Tri, level, triT, tuple-same, <ⁿ-irrefl, ++-prefix, ++-left, lowered-below, and-0, and-1, rising-Rising}
-use Rattle.names.proofs.Validity.{Ordinary, Middle, plain, marker-m, marker-M, Ends, final, onward, Valid, valid, name-valid, valid-name, valid-ends, ends-middle, lowered-ordinary}
+use Rattle.names.proofs.Validity.{Allowed, Ordinary, Middle, plain, marker-m, marker-M, Ends, final, onward, Valid, valid, name-valid, valid-name, valid-ends, ends-middle, lowered-ordinary}
 use Rattle.slots.specs.Bytes.{Bytes, every}
 use Rattle.slots.specs.Slots.{slotOf, keepsSlot}
 use Rattle.slots.proofs.RoundTrip.{kept}
@@ -129,12 +129,6 @@ pub data OrMissing : Row → Type 0 where
   missing : OrMissing []
   present : {a : Row} → Valid a → OrMissing a
 
--- "node 1..65535, any sequence", which is a u32
-pub record Author (node sequence : ℕ) : Type 0 where
-  pub node-min : 1 ≤ node
-  pub node-max : node ≤ 65535
-  pub sequence-max : sequence ≤ 4294967295
-
 append-valid : {a y : Row} → OrMissing a → Valid y → Valid (a ++ y)
 append-valid missing v = v
 append-valid {y = y} (present (valid o e)) (valid i f) = valid o (go e)
@@ -156,7 +150,7 @@ inside-position (plain o) = omega (arith, o .position-max)
 inside-position (marker-m f) = omega (arith, ap (λ (t : Tuple). t .position) f)
 inside-position (marker-M f) = omega (arith, ap (λ (t : Tuple). t .position) f)
 
-module _ (node sequence : ℕ) (au : Author node sequence) where
+module _ (node sequence : ℕ) (au : Allowed (record { node = node; sequence = sequence })) where
   own-valid : (p : ℕ) → 1 ≤ p → p ≤ 65534 → Valid (own node sequence p ∷ [])
   own-valid p h k = valid o (final o across)
     where

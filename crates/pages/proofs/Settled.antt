@@ -2,6 +2,7 @@
 -- caller learns from the contract, of any arguments a, result r and parameters at exit s. Assumes nothing.
 use mathlib.Core.Path.{_≡_}
 use denote.Ref.{now}
+use Rattle.names.specs.Names.{rowOf}
 use Rattle.names.proofs.Settled.{one}
 use Rattle.pages.proofs.number.Reads as number
 use Rattle.pages.proofs.count.Reads as count
@@ -14,6 +15,7 @@ use Rattle.pages.proofs.check_log.Reads as check-log
 use Rattle.pages.proofs.check_slot.Reads as check-slot
 use Rattle.pages.proofs.find.Reads as find
 use Rattle.pages.proofs.copy.Reads as copy
+use Rattle.pages.proofs.name_of.Reads as name-of
 
 pub number-settled : (κs : _) (a : _) (r : _) (s : _) (r' : _) (s' : _) → number.Learnt κs a r s → number.Learnt κs a r' s' → r ≡ r'
 number-settled κs a r s r' s' p q = one p q
@@ -47,3 +49,6 @@ find-settled κs a r s r' s' p q = one p q
 
 pub copy-settled : (κs : _) (a : _) (r : _) (s : _) (r' : _) (s' : _) → copy.Learnt κs a r s → copy.Learnt κs a r' s' → now (s .0) ≡ now (s' .0)
 copy-settled κs a r s r' s' p q = one p q
+
+pub name-of-settled : (κs : _) (a : _) (r : _) (s : _) (r' : _) (s' : _) → name-of.Learnt κs a r s → name-of.Learnt κs a r' s' → rowOf r ≡ rowOf r'
+name-of-settled κs a r s r' s' p q = one p q

@@ -10,3 +10,4 @@ pub mod Writing
 pub mod Books
 pub mod Checks
 pub mod Done
+pub mod Settled
