@@ -20,26 +20,10 @@ use Rattle.names.specs.Names.{m}
 use Rattle.names.proofs.Laws.{yes-no, <ᶻ-irrefl, <ⁿ-irrefl, ≤<-trans, Tri, below, level, above, triT, triN}
 use Rattle.renaming.specs.Renaming.{choose, ifBelow, ifSame, lead, N, tail, stripBelow, stripAbove, backBelow, backBetween, backAbove, backOf, takeBack, firstPosition}
 use Rattle.renaming.proofs.Lists.{at}
-use Rattle.renaming.proofs.Splits.{no-nil, next}
+use Rattle.renaming.proofs.Splits.{no-nil, next, if-below, if-not-below}
 use Rattle.renaming.proofs.Walk.{bullet-logged, bullet-below, bullet-between, bullet-above}
 
 -- ── by a test ──
-
-below-yes : {A : Type 0} (x y : Row) (a b : A) → isLess (compareRows x y) ≡ true → ifBelow x y a b ≡ a
-below-yes x y a b e = go (compareRows x y) e
-  where
-    go : (o : Order) → isLess o ≡ true → choose o a b b ≡ a
-    go Less e = refl
-    go Same e = yes-no e refl
-    go More e = yes-no e refl
-
-below-no : {A : Type 0} (x y : Row) (a b : A) → isLess (compareRows x y) ≡ false → ifBelow x y a b ≡ b
-below-no x y a b e = go (compareRows x y) e
-  where
-    go : (o : Order) → isLess o ≡ false → choose o a b b ≡ b
-    go Less e = yes-no refl e
-    go Same e = refl
-    go More e = refl
 
 -- a name below another, by the test; and not below
 pub is-under : (x y : Row) → isLess (compareRows x y) ≡ true → x <ⁿ y
@@ -57,6 +41,12 @@ not-under x y e = go (compareRows x y) (triN x y) e
     go _ (below h) e = yes-no refl e
     go _ (level h) e = equal (sym h)
     go _ (above h) e = less h
+
+below-yes : {A : Type 0} (x y : Row) (a b : A) → isLess (compareRows x y) ≡ true → ifBelow x y a b ≡ a
+below-yes x y a b e = if-below a b (is-under x y e)
+
+below-no : {A : Type 0} (x y : Row) (a b : A) → isLess (compareRows x y) ≡ false → ifBelow x y a b ≡ b
+below-no x y a b e = if-not-below a b (not-under x y e)
 
 -- ── what is stripped ──
 

@@ -233,40 +233,59 @@ fn ahead(r: Name, v: Name) -> Joined
     names::join_by(names::one_below(r), names::high_marker(), v)
 }
 
+// a is below b.
+fn name_below(a: Name, b: Name) -> bool
+    ensures { λ r. ⌜ r ≡ isLess (compareRows (rowOf a) (rowOf b)) ⌝ }
+{
+    match names::compare(a, b) {
+        Order::Less => true,
+        Order::Same => false,
+        Order::More => false,
+    }
+}
+
+// a is above b.
+fn name_above(a: Name, b: Name) -> bool
+    ensures { λ r. ⌜ r ≡ isLess (compareRows (rowOf b) (rowOf a)) ⌝ }
+{
+    match names::compare(a, b) {
+        Order::Less => false,
+        Order::Same => false,
+        Order::More => true,
+    }
+}
+
 // "If v is below r0 the result is v, else one below r0, then M, then v."
 fn under(r: Name, v: Name) -> Joined
     requires { ⌜ isName (rowOf r) ≡ true ⌝ }
     ensures { λ s. ⌜ Gives s (underRow (rowOf r) (rowOf v)) ⌝ }
 {
-    match names::compare(v, r) {
-        Order::Less => whole(v),
-        Order::Same => ahead(r, v),
-        Order::More => ahead(r, v),
+    if name_below(v, r) {
+        return whole(v);
     }
+    ahead(r, v)
 }
 
 // "If v is above r(n−1) the result is v, else r(n−1)·m·v."
 fn over(r: Name, v: Name) -> Joined
     ensures { λ s. ⌜ Gives s (overRow (rowOf r) (rowOf v) (rowOf v)) ⌝ }
 {
-    match names::compare(v, r) {
-        Order::Less => behind(r, v),
-        Order::Same => behind(r, v),
-        Order::More => whole(v),
+    if name_above(v, r) {
+        return whole(v);
     }
+    behind(r, v)
 }
 
-// "c between N(k) and N(k+1), so c = N(k)·t: if t is not above r(k), r(k)·m·t. If t is not below r(k+1), one below r(k+1), then M,
-// then t. Otherwise t." r is r(k), and q is r(k+1).
+// "c between N(k) and N(k+1), so c = N(k)·t: if t is not above r(k), r(k)·m·t. If t is not below r(k+1), one below r(k+1),
+// then M, then t. Otherwise t." r is r(k), and q is r(k+1).
 fn between(r: Name, q: Name, t: Name) -> Joined
     requires { ⌜ isName (rowOf q) ≡ true ⌝ }
     ensures { λ s. ⌜ Gives s (backBetween (rowOf r) (rowOf q) (rowOf t)) ⌝ }
 {
-    match names::compare(t, r) {
-        Order::Less => behind(r, t),
-        Order::Same => behind(r, t),
-        Order::More => under(q, t),
+    if name_above(t, r) {
+        return under(q, t);
     }
+    behind(r, t)
 }
 
 // "v is t where c = (p, A, s, −1)·t with t not empty and t not below N(0); otherwise v is c." An empty t is below N(0).
@@ -446,7 +465,8 @@ fn write_renamed(page: &[u8], log: &[u8], author: Author, out: &mut [u8])
     while i < n {
         let at = SLOT * i;
         let end = at + SLOT;
-        let w = walk(log, author, slots::read_name(&page[at..end]), j);
+        let x = slots::read_name(&page[at..end]);
+        let w = walk(log, author, x, j);
         let r = w.renamed;
         let name = r.name;
         carry(&page[at..end], name, out, at);
@@ -466,7 +486,8 @@ fn write_back(page: &[u8], log: &[u8], author: Author, out: &mut [u8])
     while i < n {
         let at = SLOT * i;
         let end = at + SLOT;
-        let r = take_back_name(log, author, slots::read_name(&page[at..end]));
+        let c = slots::read_name(&page[at..end]);
+        let r = take_back_name(log, author, c);
         let name = r.name;
         carry(&page[at..end], name, out, at);
         i += 1;
@@ -506,14 +527,9 @@ fn still_rises(rises: bool, a: Name, b: Name) -> bool
     ensures { λ r. ⌜ r ≡ (rises && isLess (compareRows (rowOf a) (rowOf b))) ⌝ }
 {
     if rises {
-        match names::compare(a, b) {
-            Order::Less => true,
-            Order::Same => false,
-            Order::More => false,
-        }
-    } else {
-        false
+        return name_below(a, b);
     }
+    false
 }
 
 // 7, where the results do not rise.

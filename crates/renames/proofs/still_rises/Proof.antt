@@ -1,43 +1,21 @@
 -- `renames::still_rises` meets its contract. Assumes nothing.
-use mathlib.Core.Path.{_∙_, sym, ap}
-use Rattle.names.specs.Ordering.{isLess}
 use borrow.Author.Needs.{needs}
 use Rattle.renames.proofs.still_rises.Statement.{statement}
 use Rattle.renames.proofs.still_rises.Tie as tie
 
-compare-requires : tie.Need-compare-requires
-compare-requires c κs = search needs
-
-enum-told : tie.Need-enum-told
-enum-told c = search needs
-
-enum-told-2 : tie.Need-enum-told-2
-enum-told-2 c = search needs
-
-enum-told-3 : tie.Need-enum-told-3
-enum-told-3 c = search needs
+name-below-requires : tie.Need-name-below-requires
+name-below-requires c κs = search needs
 
 returns : tie.Need-returns
-returns c = simp (c .before .before .before .if1 .taken) (ap isLess (sym (c .enum-told .given .1) ∙ c .before .before .compare .ensures))
+returns c = simp (c .before .if1 .taken) (c .name-below .ensures)
 
 returns-2 : tie.Need-returns-2
-returns-2 c = simp (c .before .before .before .if1 .taken) (ap isLess (sym (c .enum-told2 .given .1) ∙ c .before .before .compare .ensures))
-
-returns-3 : tie.Need-returns-3
-returns-3 c = simp (c .before .before .before .if1 .taken) (ap isLess (sym (c .enum-told3 .given .1) ∙ c .before .before .compare .ensures))
-
-returns-4 : tie.Need-returns-4
-returns-4 c = search needs
+returns-2 c = search needs
 
 pub still-rises-spec : {M : Type 1} → statement M
 still-rises-spec =
     tie.close
     (tie.spec
-    compare-requires
-    enum-told
-    enum-told-2
-    enum-told-3
+    name-below-requires
     returns
-    returns-2
-    returns-3
-    returns-4)
+    returns-2)
