@@ -89,8 +89,6 @@ static Name name_of(size_t depth, const Tuple *tuples)
 
 #define NAME(...) name_of(sizeof((Tuple[]){__VA_ARGS__}) / sizeof(Tuple), (Tuple[]){__VA_ARGS__})
 
-static const Tuple low_marker = {0, 0, 0, 0};
-static const Tuple high_marker = {65535, 65535, 4294967295, 2147483647};
 static const Tuple plain = {9, 2, 0, 0};
 
 /* The name of this depth whose tuples are all plain. */

@@ -70,11 +70,12 @@ bool is_ordinary(Tuple t)
 }
 
 /* "m = (0, 0, 0, 0) and M = (65535, 65535, 4294967295, 2147483647)" */
+const Tuple low_marker = {0, 0, 0, 0};
+const Tuple high_marker = {65535, 65535, 4294967295, 2147483647};
+
 bool is_marker(Tuple t)
 {
-    const Tuple low = {0, 0, 0, 0};
-    const Tuple high = {65535, 65535, 4294967295, 2147483647};
-    return compare_tuples(t, low) == 0 || compare_tuples(t, high) == 0;
+    return compare_tuples(t, low_marker) == 0 || compare_tuples(t, high_marker) == 0;
 }
 
 /* "The first and last tuples are ordinary, the last has offset at least 0, and markers may stand only between." */
@@ -89,6 +90,38 @@ bool is_name(const Name *name)
             return false;
     }
     return name->tuples[last].offset >= 0;
+}
+
+Name row_of(Tuple t)
+{
+    Name row = {1, {t}};
+    return row;
+}
+
+Name joined(const Name *a, const Name *b)
+{
+    Name row = *a;
+    for (size_t i = 0; i < b->depth; i++)
+        row.tuples[row.depth++] = b->tuples[i];
+    return row;
+}
+
+bool begins_with(const Name *name, const Name *start)
+{
+    if (name->depth < start->depth)
+        return false;
+    for (size_t i = 0; i < start->depth; i++)
+        if (compare_tuples(name->tuples[i], start->tuples[i]) != 0)
+            return false;
+    return true;
+}
+
+Name tuples_after(const Name *name, const Name *start)
+{
+    Name row = {0, {{0, 0, 0, 0}}};
+    for (size_t i = start->depth; i < name->depth; i++)
+        row.tuples[row.depth++] = name->tuples[i];
+    return row;
 }
 
 static Tuple read_tuple(const uint8_t *bytes)
@@ -159,6 +192,13 @@ static bool names_rise(const uint8_t *bytes, size_t length)
     return true;
 }
 
+/* "a page (its order apart) or given slot breaks its layout": a given slot is one slot long. */
+int check_slot(const uint8_t *bytes, size_t length)
+{
+    Slot slot;
+    return length == SLOT_BYTES && read_slot(bytes, &slot) ? ACCEPTED : PAGE_LAYOUT;
+}
+
 int check_page(const uint8_t *bytes, size_t length)
 {
     if (!keeps_layout(bytes, length))
@@ -180,4 +220,27 @@ int check_log(const uint8_t *bytes, size_t length)
             return LOG_BROKEN;
     }
     return ACCEPTED;
+}
+
+void read_page(const uint8_t *bytes, size_t length, Page *page)
+{
+    page->count = length / SLOT_BYTES;
+    for (size_t i = 0; i < page->count; i++)
+        read_slot(bytes + i * SLOT_BYTES, &page->slots[i]);
+}
+
+Outcome refused(int answer)
+{
+    Outcome outcome = {answer, 0};
+    return outcome;
+}
+
+Outcome write_page(const Page *page, uint8_t *out, size_t room)
+{
+    if (room < page->count * SLOT_BYTES)
+        return refused(OUTPUT_SHORT);
+    for (size_t i = 0; i < page->count; i++)
+        write_slot(out + i * SLOT_BYTES, &page->slots[i]);
+    Outcome outcome = {ACCEPTED, page->count};
+    return outcome;
 }

@@ -15,7 +15,8 @@ enum {
     HEAD_BYTES = 8, /* "depth 1..8, three zero bytes, line number" */
     SLOT_BYTES = HEAD_BYTES + DEPTH_LIMIT * TUPLE_BYTES,
     SLOT_LIMIT = 256, /* "A page is 0..256 slots" */
-    PAGE_BYTES = SLOT_LIMIT * SLOT_BYTES
+    PAGE_BYTES = SLOT_LIMIT * SLOT_BYTES,
+    LONGEST_ROW = DEPTH_LIMIT + 1 + DEPTH_LIMIT /* two names and a marker: no rule of 01 makes more */
 };
 
 /* The numbers of "What comes back". */
@@ -23,7 +24,17 @@ enum {
     ACCEPTED = 0,
     PAGE_LAYOUT = 1,
     PAGE_NOT_RISING = 2,
-    LOG_BROKEN = 3
+    LOG_BROKEN = 3,
+    NO_AUTHOR = 4,
+    NOT_FRESH = 5,
+    TOO_DEEP = 6,
+    BACK_NOT_RISING = 7,
+    OUTPUT_SHORT = 8,
+    NAME_PRESENT = 9,
+    NAME_ABSENT = 10,
+    PAGE_FULL = 11,
+    NO_NEW_NAME = 12,
+    GAP_BEYOND = 16
 };
 
 typedef struct {
@@ -33,15 +44,31 @@ typedef struct {
     int32_t offset;
 } Tuple;
 
+/* A row of tuples: a name where is_name says so, a part of one, or a result that may be too deep. */
 typedef struct {
     size_t depth;
-    Tuple tuples[DEPTH_LIMIT];
+    Tuple tuples[LONGEST_ROW];
 } Name;
 
 typedef struct {
     uint32_t line;
     Name name;
 } Slot;
+
+typedef struct {
+    size_t count;
+    Slot slots[SLOT_LIMIT];
+} Page;
+
+/* What every call that writes slots gives: "accepted; with the count of slots [..] written", or a refusal, which
+ * "reports count 0 [..] and writes nothing". */
+typedef struct {
+    int answer;
+    size_t count;
+} Outcome;
+
+extern const Tuple low_marker;  /* m */
+extern const Tuple high_marker; /* M */
 
 /* Below 0, 0 or above 0, as a is smaller than b, equal to it or greater. */
 int compare_tuples(Tuple a, Tuple b);
@@ -51,16 +78,38 @@ bool is_ordinary(Tuple t);
 bool is_marker(Tuple t);
 bool is_name(const Name *name);
 
+/* The row of one tuple. */
+Name row_of(Tuple t);
+
+/* "a·b means the tuples of a, then those of b." Together they are at most LONGEST_ROW. */
+Name joined(const Name *a, const Name *b);
+
+/* Whether a row begins with all tuples of another one, and the tuples after those. */
+bool begins_with(const Name *name, const Name *start);
+Name tuples_after(const Name *name, const Name *start);
+
 /* Reads one slot of SLOT_BYTES; false where it breaks its layout, and the slot read then means nothing. */
 bool read_slot(const uint8_t *bytes, Slot *slot);
 
 /* Writes SLOT_BYTES. Any tuples are written, a name or not; the depth is at most DEPTH_LIMIT. */
 void write_slot(uint8_t *bytes, const Slot *slot);
 
+/* ACCEPTED or PAGE_LAYOUT, of a slot that is given alone. */
+int check_slot(const uint8_t *bytes, size_t length);
+
 /* ACCEPTED, PAGE_LAYOUT or PAGE_NOT_RISING. */
 int check_page(const uint8_t *bytes, size_t length);
 
 /* ACCEPTED or LOG_BROKEN. */
 int check_log(const uint8_t *bytes, size_t length);
+
+/* Reads a page that keeps its layout. */
+void read_page(const uint8_t *bytes, size_t length, Page *page);
+
+/* "8: output shorter than the result"; otherwise writes all slots of the page, "and nothing after that". */
+Outcome write_page(const Page *page, uint8_t *out, size_t room);
+
+/* A refusal. */
+Outcome refused(int answer);
 
 #endif
