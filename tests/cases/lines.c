@@ -13,7 +13,7 @@
 #include "../reference/renames.h"
 
 enum {
-    SCRIPT_BYTES = 16000, /* the program reads at most 16,384 */
+    SCRIPT_BYTES = 16000, /* the program reads at most 32,768 */
     LONGEST_LINE = 4096,
     NAMES = 8, /* the most names of a page, and of a log and a page together */
     FEW = 3    /* the most numbers of each sort that stand in one line */
