@@ -244,17 +244,6 @@ fn name_below(a: Name, b: Name) -> bool
     }
 }
 
-// a is above b.
-fn name_above(a: Name, b: Name) -> bool
-    ensures { λ r. ⌜ r ≡ isLess (compareRows (rowOf b) (rowOf a)) ⌝ }
-{
-    match names::compare(a, b) {
-        Order::Less => false,
-        Order::Same => false,
-        Order::More => true,
-    }
-}
-
 // "If v is below r0 the result is v, else one below r0, then M, then v."
 fn under(r: Name, v: Name) -> Joined
     requires { ⌜ isName (rowOf r) ≡ true ⌝ }
@@ -270,7 +259,7 @@ fn under(r: Name, v: Name) -> Joined
 fn over(r: Name, v: Name) -> Joined
     ensures { λ s. ⌜ Gives s (overRow (rowOf r) (rowOf v) (rowOf v)) ⌝ }
 {
-    if name_above(v, r) {
+    if name_below(r, v) {
         return whole(v);
     }
     behind(r, v)
@@ -282,7 +271,7 @@ fn between(r: Name, q: Name, t: Name) -> Joined
     requires { ⌜ isName (rowOf q) ≡ true ⌝ }
     ensures { λ s. ⌜ Gives s (backBetween (rowOf r) (rowOf q) (rowOf t)) ⌝ }
 {
-    if name_above(t, r) {
+    if name_below(r, t) {
         return under(q, t);
     }
     behind(r, t)
@@ -467,8 +456,8 @@ fn write_renamed(page: &[u8], log: &[u8], author: Author, out: &mut [u8])
         let end = at + SLOT;
         let x = slots::read_name(&page[at..end]);
         let w = walk(log, author, x, j);
-        let r = w.renamed;
-        let name = r.name;
+        let renamed = w.renamed;
+        let name = renamed.name;
         carry(&page[at..end], name, out, at);
         j = w.below;
         i += 1;

@@ -10,8 +10,8 @@ use borrow.Author.Needs.{needs}
 use Rattle.renames.proofs.between.Statement.{statement}
 use Rattle.renames.proofs.between.Tie as tie
 
-name-above-requires : tie.Need-name-above-requires
-name-above-requires c κs = search needs
+name-below-requires : tie.Need-name-below-requires
+name-below-requires c κs = search needs
 
 under-requires : tie.Need-under-requires
 under-requires c κs = search needs
@@ -21,7 +21,7 @@ unfolding over
 returns c =
     let v = rowOf (c .before .before .before .args .t) in
     let r = rowOf (c .before .before .before .args .r) in
-    gives (c .under .result) (sym (if-above (under (rowOf (c .before .before .before .args .q)) v) (r ++ (m ∷ v)) (is-under r v (sym (c .before .before .name-above .ensures) ∙ c .before .if1 .taken)))) (c .under .ensures)
+    gives (c .under .result) (sym (if-above (under (rowOf (c .before .before .before .args .q)) v) (r ++ (m ∷ v)) (is-under r v (sym (c .before .before .name-below .ensures) ∙ c .before .if1 .taken)))) (c .under .ensures)
 
 behind-requires : tie.Need-behind-requires
 behind-requires c κs = search needs
@@ -31,13 +31,13 @@ unfolding over
 returns-2 c =
     let v = rowOf (c .before .before .before .args .t) in
     let r = rowOf (c .before .before .before .args .r) in
-    gives (c .behind .result) (sym (if-not-above (under (rowOf (c .before .before .before .args .q)) v) (r ++ (m ∷ v)) (not-under r v (sym (c .before .before .name-above .ensures) ∙ c .before .if1 .left)))) (c .behind .ensures)
+    gives (c .behind .result) (sym (if-not-above (under (rowOf (c .before .before .before .args .q)) v) (r ++ (m ∷ v)) (not-under r v (sym (c .before .before .name-below .ensures) ∙ c .before .if1 .left)))) (c .behind .ensures)
 
 pub between-spec : {M : Type 1} → statement M
 between-spec =
     tie.close
     (tie.spec
-    name-above-requires
+    name-below-requires
     under-requires
     returns
     behind-requires

@@ -10,8 +10,8 @@ use borrow.Author.Needs.{needs}
 use Rattle.renames.proofs.over.Statement.{statement}
 use Rattle.renames.proofs.over.Tie as tie
 
-name-above-requires : tie.Need-name-above-requires
-name-above-requires c κs = search needs
+name-below-requires : tie.Need-name-below-requires
+name-below-requires c κs = search needs
 
 whole-requires : tie.Need-whole-requires
 whole-requires c κs = search needs
@@ -21,7 +21,7 @@ unfolding over
 returns c =
     let v = rowOf (c .before .before .before .args .v) in
     let r = rowOf (c .before .before .before .args .r) in
-    gives (c .whole .result) (sym (if-above v (r ++ (m ∷ v)) (is-under r v (sym (c .before .before .name-above .ensures) ∙ c .before .if1 .taken)))) (c .whole .ensures)
+    gives (c .whole .result) (sym (if-above v (r ++ (m ∷ v)) (is-under r v (sym (c .before .before .name-below .ensures) ∙ c .before .if1 .taken)))) (c .whole .ensures)
 
 behind-requires : tie.Need-behind-requires
 behind-requires c κs = search needs
@@ -31,13 +31,13 @@ unfolding over
 returns-2 c =
     let v = rowOf (c .before .before .before .args .v) in
     let r = rowOf (c .before .before .before .args .r) in
-    gives (c .behind .result) (sym (if-not-above v (r ++ (m ∷ v)) (not-under r v (sym (c .before .before .name-above .ensures) ∙ c .before .if1 .left)))) (c .behind .ensures)
+    gives (c .behind .result) (sym (if-not-above v (r ++ (m ∷ v)) (not-under r v (sym (c .before .before .name-below .ensures) ∙ c .before .if1 .left)))) (c .behind .ensures)
 
 pub over-spec : {M : Type 1} → statement M
 over-spec =
     tie.close
     (tie.spec
-    name-above-requires
+    name-below-requires
     whole-requires
     returns
     behind-requires
