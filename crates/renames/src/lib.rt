@@ -29,6 +29,8 @@ use renaming::Case;
 use slots::HEAD;
 use slots::SLOT;
 
+// ── what both need ──
+
 // "p = position of r0's first tuple"
 fn first_position(log: &[u8]) -> u16
     requires { ⌜ isLog (now log) ≡ true ⌝ }
@@ -73,6 +75,8 @@ fn led(t: Tuple, x: Name) -> Joined
 {
     names::join_by(names::empty(), t, x)
 }
+
+// ── renaming one name ──
 
 // "below r0 and below N(0)", or "below r0, otherwise".
 fn case_below(p: u16, author: Author, x: Name) -> Case
@@ -180,6 +184,8 @@ pub fn rename_name(log: &[u8], author: Author, x: Name) -> Joined
     let w = walk(log, author, x, 0);
     w.renamed
 }
+
+// ── taking one name back ──
 
 // A name is below the name of one tuple.
 fn is_below(a: Name, t: Tuple) -> bool
@@ -355,6 +361,8 @@ pub fn take_back_name(log: &[u8], author: Author, c: Name) -> Joined
     back_within(log, author, c)
 }
 
+// ── renaming a page: what decides ──
+
 // The name in a slot does not have (A, s) as node and sequence of its first tuple.
 fn is_fresh(slot: &[u8], author: Author) -> bool
     requires { ⌜ keepsSlot (now slot) ≡ true ⌝ }
@@ -434,6 +442,8 @@ fn all_renamed_fit(page: &[u8], log: &[u8], author: Author) -> bool
     }
 }
 
+// ── writing ──
+
 // "Line numbers travel with their names": the slot written from p on has that name, and the given slot's line number.
 fn carry(slot: &[u8], name: Name, out: &mut [u8], p: usize)
     requires { ⌜ (length (now slot) ≡ slotSize) × (p + slotSize ≤ length (now out)) ⌝ }
@@ -477,11 +487,13 @@ fn write_back(page: &[u8], log: &[u8], author: Author, out: &mut [u8])
         let end = at + SLOT;
         let c = slots::read_name(&page[at..end]);
         let r = take_back_name(log, author, c);
-        let name = r.name;
-        carry(&page[at..end], name, out, at);
+        let old = r.name;
+        carry(&page[at..end], old, out, at);
         i += 1;
     }
 }
+
+// ── the calls ──
 
 // What stands before a rename or a taking back: a refusal, or none so far.
 enum Checked {
