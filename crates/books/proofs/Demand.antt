@@ -32,7 +32,8 @@ use Rattle.pages.proofs.RoundTrip.{pieces-are, written-length}
 use Rattle.renames.specs.Renames.{carry, carried, allFit, renaming, takingBack}
 use Rattle.renames.proofs.Logs.{logged}
 use Rattle.renames.proofs.Carried.{page-valid, carried-names, carried-good}
-use Rattle.renames.proofs.Books.{Asked, past, asked, Renames, renames, page-fresh, renamed-valid, back-valid, renamed-slots, rename-page, rename-octets, back-slots, back-parts, back-page}
+use Rattle.renames.proofs.Done.{take-back-by}
+use Rattle.renames.proofs.Books.{Asked, asked, Renames, renames, page-fresh, renamed-valid, back-valid, renamed-slots, rename-page, rename-octets, back-slots, back-parts, back-page}
 use Rattle.books.specs.Demand.{unmarked, unmarkedBook, Edited, lineIn, Meet, Restored, TakenBack, restored, tooDeep, short, meeting, Demand3, Seven}
 use Rattle.books.proofs.Members.{in-all, place, map-at, fixed, some-not}
 use Rattle.books.proofs.Unmarked.{unmarked-free, renamed-unmarked}
@@ -75,10 +76,6 @@ rest page log author room =
     (ask (rising (map (takeBack author (namesOf log)) (namesOf page))) (refuse NotRisingBack)
     (write (pieces (carried (takeBack author (namesOf log)) (slotsOf page))) room))
 
-back-rest : (page log : Bytes) (author : Author) (room : ℕ) → Asked page log author → takingBack page log author room ≡ rest page log author room
-unfolding takingBack
-back-rest page log author room v = past page log author v (rest page log author room)
-
 pub seven : Seven
 unfolding takingBack
 seven = record { only = only; always = always }
@@ -94,7 +91,7 @@ seven = record { only = only; always = always }
     always : (page log : Bytes) (author : Author) (room : ℕ) → keepsLayout page ≡ true → rises page ≡ true → isLog log ≡ true → 1 ≤ author .node → allFit (takeBack author (namesOf log)) page ≡ true → Meet (map (takeBack author (namesOf log)) (namesOf page)) → takingBack page log author room .answer ≡ Refused NotRisingBack
     always page log author room k r l n t m =
         let v : Asked page log author = record { layout = k; rising = r; logged = l; node = n } in
-        ap (λ (x : Outcome). x .answer) (back-rest page log author room v) ∙ rw (t, meet-rising (map (takeBack author (namesOf log)) (namesOf page)) m)
+        ap (λ (x : Outcome). x .answer) (take-back-by page log author v room) ∙ rw (t, meet-rising (map (takeBack author (namesOf log)) (namesOf page)) m)
 
 -- ── demand 3 ──
 
@@ -180,7 +177,7 @@ module _ (page log : Bytes) (author : Author) (room n : ℕ) (edited : Bytes) (a
   taken = go (allFit g edited) (rising (map g (namesOf edited))) (leb (length (flatten (pieces (carried g (slotsOf edited))))) room') refl refl refl
     where
       is : takingBack edited log author room' ≡ rest edited log author room'
-      is = back-rest edited log author room' edited-asked
+      is = take-back-by edited log author edited-asked room'
 
       marked : (b : Bool) → unmarkedBook page log added ≡ b → rising (map g (namesOf edited)) ≡ false → unmarkedBook page log added ≡ false
       marked true u q = yes-no (no-meeting u) q

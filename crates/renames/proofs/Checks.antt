@@ -1,5 +1,5 @@
 -- What the code has checked before a rename or a taking back, against 01's rows of refusals. Assumes nothing.
-use mathlib.Core.Path.{_≡_, refl, sym, ap}
+use mathlib.Core.Path.{_≡_, refl, _∙_, sym, ap}
 use mathlib.Core.Bool.{Bool, true, false}
 use Prim.Native.Nat.{ℕ}
 use native.Mathlib.Omega.{arith}
@@ -11,6 +11,7 @@ use Rattle.pages.specs.Answers.{Outcome, ask, refuse}
 use Rattle.pages.specs.Pages.{keepsLayout, rises, isLog}
 use Rattle.pages.specs.declared.Refusal.{Refusal}
 use Rattle.pages.specs.declared.Refusal.the-variants.{BadLayout, NotRising, BadLog, NoAuthor}
+use Rattle.renames.specs.declared.Checked.{Checked}
 use Rattle.renames.specs.declared.Checked.the-variants.{Refused, Passed}
 use Rattle.renames.specs.Renames.{askRename}
 use Rattle.renames.proofs.Books.{Asked}
@@ -44,16 +45,16 @@ module _ (page log : Bytes) (author : Author) where
 
 -- two tests more, as the code makes them before it writes
 module _ (a b : Bool) (q s : Refusal) where
-  pub both-passed : ask a (Refused q) (ask b (Refused s) Passed) ≡ Passed → (a ≡ true) × (b ≡ true)
-  both-passed e = go a b e
+  pub both-passed : {x : Checked} → x ≡ ask a (Refused q) (ask b (Refused s) Passed) → x ≡ Passed → (a ≡ true) × (b ≡ true)
+  both-passed e f = go a b (sym e ∙ f)
     where
       go : (a b : Bool) → ask a (Refused q) (ask b (Refused s) Passed) ≡ Passed → (a ≡ true) × (b ≡ true)
       go true true e = (refl, refl)
       go true false e = no-pass s e
       go false b e = no-pass q e
 
-  pub one-failed : (r : Refusal) (next : Outcome) → ask a (Refused q) (ask b (Refused s) Passed) ≡ Refused r → ask a (refuse q) (ask b (refuse s) next) ≡ refuse r
-  one-failed r next e = go a b e
+  pub one-failed : {x : Checked} (r : Refusal) (next : Outcome) → x ≡ ask a (Refused q) (ask b (Refused s) Passed) → x ≡ Refused r → ask a (refuse q) (ask b (refuse s) next) ≡ refuse r
+  one-failed r next e f = go a b (sym e ∙ f)
     where
       go : (a b : Bool) → ask a (Refused q) (ask b (Refused s) Passed) ≡ Refused r → ask a (refuse q) (ask b (refuse s) next) ≡ refuse r
       go true true e = no-pass r (sym e)

@@ -1,22 +1,27 @@
 -- `renames::case_at` meets its contract. Assumes nothing.
 use mathlib.Core.Path.{_≡_, _∙_, sym, ap}
-use Prim.Native.Nat.{ℕ, suc, _-_, _/_, _<_, _≤_}
+use Prim.Native.Nat.{ℕ, suc, _-_, _<_, _≤_}
 use native.Mathlib.Omega.{arith}
 use borrow.Author.Needs.{needs}
 use denote.Ref.{now}
 use lib.ListN.{length}
+use Rattle.names.specs.declared.Author.{Author}
+use Rattle.names.specs.Ordering.{Row}
 use Rattle.names.specs.Names.{rowOf}
-use Rattle.slots.specs.Slots.{slotSize}
 use Rattle.pages.specs.declared.Place.the-variants.{Gap}
 use Rattle.pages.specs.Pages.{namesOf}
 use Rattle.pages.specs.Places.{placeOf}
 use Rattle.renaming.specs.declared.Case.{Case}
-use Rattle.renaming.specs.declared.Case.the-variants.{KeepBelow, PutBelow, Between, PutAbove, KeepAbove}
+use Rattle.renaming.specs.declared.Case.the-variants.{KeepBelow, PutBelow, PutAbove, KeepAbove}
 use Rattle.renaming.specs.Renaming.{firstPosition, N, ifBelow}
 use Rattle.renames.proofs.Logs.{logged}
 use Rattle.renames.proofs.Places.{case-here, case-first, case-between, case-last}
 use Rattle.renames.proofs.case_at.Statement.{statement}
 use Rattle.renames.proofs.case_at.Tie as tie
+
+-- the comparison was made with the p that the code has read
+above-as : {r : Case} {p q : ℕ} (author : Author) (x : Row) (k : ℕ) → r ≡ ifBelow x (N p author k) (PutAbove k) KeepAbove → p ≡ q → r ≡ ifBelow x (N q author k) (PutAbove k) KeepAbove
+above-as author x k e f = e ∙ ap (λ (p : ℕ). ifBelow x (N p author k) (PutAbove k) KeepAbove) f
 
 first-position-requires : tie.Need-first-position-requires
 first-position-requires c κs = search needs
@@ -83,7 +88,7 @@ returns-4 c =
     let z : k ≡ suc (k - 1) = omega arith in
     let h : length (namesOf s) ≤ suc (k - 1) = omega (arith, l .count) in
     let e : placeOf x (namesOf s) ≡ Gap (suc (k - 1)) = sym (c .before .before .before .before .before .before .before .before .pre .1) ∙ c .before .before .before .before .place2 .given .1 ∙ ap Gap z in
-    c .case-above .ensures ∙ ap (λ (q : ℕ). ifBelow x (N q (a .author) (k - 1)) (PutAbove (k - 1)) KeepAbove) (c .before .before .before .before .before .before .first-position .ensures) ∙ sym (case-last p (a .author) x (namesOf s) (k - 1) (l .rising) h e .1)
+    above-as (a .author) x (k - 1) (c .case-above .ensures) (c .before .before .before .before .before .before .first-position .ensures) ∙ sym (case-last p (a .author) x (namesOf s) (k - 1) (l .rising) h e .1)
 
 pub case-at-spec : {M : Type 1} → statement M
 case-at-spec =

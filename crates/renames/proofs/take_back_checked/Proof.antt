@@ -1,5 +1,5 @@
 -- `renames::take_back_checked` meets its contract. Assumes nothing.
-use mathlib.Core.Path.{_∙_, sym}
+use mathlib.Core.Path.{_∙_}
 use mathlib.Core.List.{map}
 use native.Mathlib.Omega.{arith}
 use denote.Ref.{now}
@@ -39,7 +39,7 @@ returns c =
     let q = rising (map f (namesOf s)) in
     let w = write (pieces (carried f (slotsOf s))) room in
     let b = take-back-by s g (a .author) v room in
-    let z = both-passed p q TooDeep NotRisingBack (sym (c .before .before .before .check-back .ensures) ∙ c .before .enum-told .given .1) in
+    let z = both-passed p q TooDeep NotRisingBack (c .before .before .before .check-back .ensures) (c .before .enum-told .given .1) in
     refused _ _ _ (b ∙ (λ i. ask (z .0 i) (refuse TooDeep) (ask (z .1 i) (refuse NotRisingBack) w)) ∙ too-short f s (v .layout) (z .0) room (omega arith))
 
 write-back-requires : tie.Need-write-back-requires
@@ -53,7 +53,7 @@ write-back-requires c κs =
     let f = takeBack (a .author) l in
     let p = allFit f s in
     let q = rising (map f (namesOf s)) in
-    let z = both-passed p q TooDeep NotRisingBack (sym (c .before .before .before .before .check-back .ensures) ∙ c .before .before .enum-told .given .1) in
+    let z = both-passed p q TooDeep NotRisingBack (c .before .before .before .before .check-back .ensures) (c .before .before .enum-told .given .1) in
     ((v .logged, omega arith), z .0)
 
 returns-2 : tie.Need-returns-2
@@ -69,7 +69,7 @@ returns-2 c =
     let q = rising (map f (namesOf s)) in
     let w = write (pieces (carried f (slotsOf s))) room in
     let b = take-back-by s g (a .author) v room in
-    refused _ _ _ (b ∙ one-failed p q TooDeep NotRisingBack _ w (sym (c .before .before .before .check-back .ensures) ∙ c .before .checked .given .1))
+    refused _ _ _ (b ∙ one-failed p q TooDeep NotRisingBack _ w (c .before .before .before .check-back .ensures) (c .before .checked .given .1))
 
 same-length : tie.Need-same-length
 same-length c = search needs
@@ -87,7 +87,7 @@ returns-3 c =
     let q = rising (map f (namesOf s)) in
     let w = write (pieces (carried f (slotsOf s))) room in
     let b = take-back-by s g (a .author) v room in
-    let z = both-passed p q TooDeep NotRisingBack (sym (c .before .before .before .before .before .before .before .check-back .ensures) ∙ c .before .before .before .before .before .enum-told .given .1) in
+    let z = both-passed p q TooDeep NotRisingBack (c .before .before .before .before .before .before .before .check-back .ensures) (c .before .before .before .before .before .enum-told .given .1) in
     accepted _ _ _ _ _ (b ∙ (λ i. ask (z .0 i) (refuse TooDeep) (ask (z .1 i) (refuse NotRisingBack) w)) ∙ done f s (v .layout) (z .0) room (omega arith)) (c .before .before .write-back .ensures)
 
 pub take-back-checked-spec : {M : Type 1} → statement M
