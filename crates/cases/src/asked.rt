@@ -176,7 +176,8 @@ fn new_case(text: &[u8], at: usize) {
 
 // The answer, and the name that was made, as the slot of line 0.
 fn ask(page: &[u8], gap: usize, node: u16) {
-    let made = gaps::new_name(page, gap, node, 11);
+    let author = Author { node, sequence: 11 };
+    let made = gaps::new_name(page, gap, author);
     let a = made.answer;
     let new = made.name;
     answer(a);

@@ -13,6 +13,7 @@ use lib.Dec.{leb, eqb}
 use lib.IntN.{ℤ, pos, negsuc}
 use lib.ListN.{length, getD, length-map, List·getD-eq-default}
 use lib.Signed.{nonNeg}
+use Rattle.names.specs.declared.Author.{Author}
 use Rattle.names.specs.declared.Tuple.{Tuple}
 use Rattle.names.specs.declared.Order.{Order}
 use Rattle.names.specs.declared.Order.the-variants.{Less, Same, More}
@@ -68,31 +69,31 @@ rest-is (s ∷ a) (t ∷ b) r e = go (compareTuples s t) (triT s t) (rest-is a b
     go Same (level d) f e = let g = f e in cc
     go More v f e = cc
 
-module _ (node sequence : ℕ) where
-  before-tuple : (a : Row) (y : Tuple) (u : Row) → Every (λ c. (a <ⁿ c) × (c <ⁿ a ++ (y ∷ u))) (beforeTuple node sequence a y)
+module _ (author : Author) where
+  before-tuple : (a : Row) (y : Tuple) (u : Row) → Every (λ c. (a <ⁿ c) × (c <ⁿ a ++ (y ∷ u))) (beforeTuple author a y)
   unfolding beforeTuple
   before-tuple a y u = go (leb 2 (y .position)) refl
     where
-      low : (t o : Bool) → Every (λ c. (a <ⁿ c) × (c <ⁿ a ++ (y ∷ u))) (cond t (cond o (some (a ++ (lowered y ∷ own node sequence 32768 ∷ []))) none) none)
+      low : (t o : Bool) → Every (λ c. (a <ⁿ c) × (c <ⁿ a ++ (y ∷ u))) (cond t (cond o (some (a ++ (lowered y ∷ own author 32768 ∷ []))) none) none)
       low true true = (++-prefix a _ _, ++-left a (differ (lowered-below y)))
       low true false = tt
       low false o = tt
 
-      go : (t : Bool) → leb 2 (y .position) ≡ t → Every (λ c. (a <ⁿ c) × (c <ⁿ a ++ (y ∷ u))) (cond t (some (a ++ (own node sequence (y .position / 2) ∷ []))) (cond (eqb (y .position) 1) (cond (nonNeg (y .offset)) (some (a ++ (lowered y ∷ own node sequence 32768 ∷ []))) none) none))
+      go : (t : Bool) → leb 2 (y .position) ≡ t → Every (λ c. (a <ⁿ c) × (c <ⁿ a ++ (y ∷ u))) (cond t (some (a ++ (own author (y .position / 2) ∷ []))) (cond (eqb (y .position) 1) (cond (nonNeg (y .offset)) (some (a ++ (lowered y ∷ own author 32768 ∷ []))) none) none))
       go true e = (++-prefix a _ _, ++-left a (differ (position (omega (arith, leb-true 2 (y .position) e)))))
       go false e = low (eqb (y .position) 1) (nonNeg (y .offset))
 
-  close-below : (a b : Row) → a <ⁿ b → Every (λ c. (a <ⁿ c) × (c <ⁿ b)) (closeBy node sequence a (rest a b))
+  close-below : (a b : Row) → a <ⁿ b → Every (λ c. (a <ⁿ c) × (c <ⁿ b)) (closeBy author a (rest a b))
   unfolding closeBy
   close-below a b h = go (rest a b) refl (before h)
     where
-      go : (o : Option Row) → rest a b ≡ o → Before a b → Every (λ c. (a <ⁿ c) × (c <ⁿ b)) (closeBy node sequence a o)
+      go : (o : Option Row) → rest a b ≡ o → Before a b → Every (λ c. (a <ⁿ c) × (c <ⁿ b)) (closeBy author a o)
       go none e (prefix t u f) = absurd (let z : _≡_ {A = ℕ} 0 1 = cc (rest-prefix a (t ∷ u)) in omega arith)
-      go none e (apart f) = (++-prefix a _ _, rw append-nil at (f (own node sequence 32768 ∷ []) []))
+      go none e (apart f) = (++-prefix a _ _, rw append-nil at (f (own author 32768 ∷ []) []))
       go (some []) e w = absurd (<ⁿ-irrefl (rw (rest-is a b [] e ∙ append-nil a) at h))
       go (some (y ∷ u)) e w = rw (rest-is a b (y ∷ u) e) (before-tuple a y u)
 
-  close-end : (a : Row) → Every (Between a []) (closeBy node sequence a (rest a []))
+  close-end : (a : Row) → Every (Between a []) (closeBy author a (rest a []))
   unfolding closeBy rest
   close-end [] = (ends, tt)
   close-end (s ∷ a) = (++-prefix (s ∷ a) _ _, tt)
@@ -101,24 +102,24 @@ module _ (node sequence : ℕ) where
   weaken a b none p = tt
   weaken a b (some c) p = (p .0, under b (p .1))
 
-  close-between : (a b : Row) → Under a b → Every (Between a b) (closeBy node sequence a (rest a b))
+  close-between : (a b : Row) → Under a b → Every (Between a b) (closeBy author a (rest a b))
   close-between a [] h = close-end a
-  close-between a (t ∷ b) h = weaken a (t ∷ b) (closeBy node sequence a (rest a (t ∷ b))) (close-below a (t ∷ b) h)
+  close-between a (t ∷ b) h = weaken a (t ∷ b) (closeBy author a (rest a (t ∷ b))) (close-below a (t ∷ b) h)
 
   -- for a, b that are names or missing, a below b where both are there: every new name is above a, and below b where b is there
-  pub new-between : (a b : Row) → Under a b → Every (Between a b) (newName node sequence a b)
+  pub new-between : (a b : Row) → Under a b → Every (Between a b) (newName author a b)
   unfolding newName
   new-between a b h = go (leb (firstBefore a + 2) (firstAfter b)) refl
     where
-      left : (a : Row) (d : ℕ) → firstBefore a < d → a <ⁿ own node sequence d ∷ []
+      left : (a : Row) (d : ℕ) → firstBefore a < d → a <ⁿ own author d ∷ []
       left [] d h = ends
       left (s ∷ a) d h = differ (position h)
 
-      right : (b : Row) (d : ℕ) → d < firstAfter b → Under (own node sequence d ∷ []) b
+      right : (b : Row) (d : ℕ) → d < firstAfter b → Under (own author d ∷ []) b
       right [] d h = tt
       right (t ∷ b) d h = differ (position h)
 
-      go : (t : Bool) → leb (firstBefore a + 2) (firstAfter b) ≡ t → Every (Between a b) (cond t (some (own node sequence ((firstBefore a + firstAfter b) / 2) ∷ [])) (closeBy node sequence a (rest a b)))
+      go : (t : Bool) → leb (firstBefore a + 2) (firstAfter b) ≡ t → Every (Between a b) (cond t (some (own author ((firstBefore a + firstAfter b) / 2) ∷ [])) (closeBy author a (rest a b)))
       go true e = let l = leb-true (firstBefore a + 2) (firstAfter b) e in (left a _ (omega arith), right b _ (omega arith))
       go false e = close-between a b h
 
@@ -150,14 +151,14 @@ inside-position (plain o) = omega (arith, o .position-max)
 inside-position (marker-m f) = omega (arith, ap (λ (t : Tuple). t .position) f)
 inside-position (marker-M f) = omega (arith, ap (λ (t : Tuple). t .position) f)
 
-module _ (node sequence : ℕ) (au : Allowed (record { node = node; sequence = sequence })) where
-  own-valid : (p : ℕ) → 1 ≤ p → p ≤ 65534 → Valid (own node sequence p ∷ [])
+module _ (author : Author) (au : Allowed author) where
+  own-valid : (p : ℕ) → 1 ≤ p → p ≤ 65534 → Valid (own author p ∷ [])
   own-valid p h k = valid o (final o across)
     where
-      o : Ordinary (own node sequence p)
+      o : Ordinary (own author p)
       o = record { position-min = h; position-max = k; node-min = au .node-min; node-max = au .node-max; sequence-max = au .sequence-max; offset-min = across; offset-max = up {a = 0} {b = 2147483647} (omega arith) }
 
-  before-valid : (a : Row) (y : Tuple) → OrMissing a → Middle y → Every Valid (beforeTuple node sequence a y)
+  before-valid : (a : Row) (y : Tuple) → OrMissing a → Middle y → Every Valid (beforeTuple author a y)
   unfolding beforeTuple
   before-valid a y v i = go (leb 2 (y .position)) refl
     where
@@ -170,17 +171,17 @@ module _ (node sequence : ℕ) (au : Allowed (record { node = node; sequence = s
       one e (marker-m f) = absurd (omega (arith, ap (λ (t : Tuple). t .position) f))
       one e (marker-M f) = absurd (omega (arith, ap (λ (t : Tuple). t .position) f))
 
-      low : (t o : Bool) → eqb (y .position) 1 ≡ t → nonNeg (y .offset) ≡ o → Every Valid (cond t (cond o (some (a ++ (lowered y ∷ own node sequence 32768 ∷ []))) none) none)
+      low : (t o : Bool) → eqb (y .position) 1 ≡ t → nonNeg (y .offset) ≡ o → Every Valid (cond t (cond o (some (a ++ (lowered y ∷ own author 32768 ∷ []))) none) none)
       low true true e f = append-valid v (put-valid (lowered-ordinary (one (eqb-true (y .position) 1 e) i) (inner (y .offset) f)) (own-valid 32768 (omega arith) (omega arith)))
       low true false e f = tt
       low false o e f = tt
 
-      go : (t : Bool) → leb 2 (y .position) ≡ t → Every Valid (cond t (some (a ++ (own node sequence (y .position / 2) ∷ []))) (cond (eqb (y .position) 1) (cond (nonNeg (y .offset)) (some (a ++ (lowered y ∷ own node sequence 32768 ∷ []))) none) none))
+      go : (t : Bool) → leb 2 (y .position) ≡ t → Every Valid (cond t (some (a ++ (own author (y .position / 2) ∷ []))) (cond (eqb (y .position) 1) (cond (nonNeg (y .offset)) (some (a ++ (lowered y ∷ own author 32768 ∷ []))) none) none))
       go true e = append-valid v (own-valid (y .position / 2) (omega (arith, leb-true 2 (y .position) e)) (omega (arith, inside-position i)))
       go false e = low (eqb (y .position) 1) (nonNeg (y .offset)) refl refl
 
   -- for a, b that are names or missing, every new name is a name
-  pub new-valid : (a b : Row) → OrMissing a → OrMissing b → Every Valid (newName node sequence a b)
+  pub new-valid : (a b : Row) → OrMissing a → OrMissing b → Every Valid (newName author a b)
   unfolding newName closeBy
   new-valid a b v w = go (leb (firstBefore a + 2) (firstAfter b)) refl
     where
@@ -188,7 +189,7 @@ module _ (node sequence : ℕ) (au : Allowed (record { node = node; sequence = s
       top _ missing = omega arith
       top _ (present (valid o e)) = omega (arith, o .position-max)
 
-      middle : Valid (own node sequence 32768 ∷ [])
+      middle : Valid (own author 32768 ∷ [])
       middle = own-valid 32768 (omega arith) (omega arith)
 
       ends-in : {b : Row} (y : Tuple) (u : Row) → OrMissing b → b ≡ a ++ (y ∷ u) → Middle y
@@ -199,49 +200,49 @@ module _ (node sequence : ℕ) (au : Allowed (record { node = node; sequence = s
           length-past (s ∷ a) y u = omega arith
       ends-in y u (present p) e = append-ends a y u (rw e at (valid-ends p))
 
-      follow : (o : Option Row) → rest a b ≡ o → Every Valid (closeBy node sequence a o)
+      follow : (o : Option Row) → rest a b ≡ o → Every Valid (closeBy author a o)
       follow none e = append-valid v middle
       follow (some []) e = append-valid v middle
       follow (some (y ∷ u)) e = before-valid a y v (ends-in y u w (rest-is a b (y ∷ u) e))
 
-      go : (t : Bool) → leb (firstBefore a + 2) (firstAfter b) ≡ t → Every Valid (cond t (some (own node sequence ((firstBefore a + firstAfter b) / 2) ∷ [])) (closeBy node sequence a (rest a b)))
+      go : (t : Bool) → leb (firstBefore a + 2) (firstAfter b) ≡ t → Every Valid (cond t (some (own author ((firstBefore a + firstAfter b) / 2) ∷ [])) (closeBy author a (rest a b)))
       go true e = let h = leb-true (firstBefore a + 2) (firstAfter b) e in let k = top b w in own-valid _ (omega arith) (omega arith)
       go false e = follow (rest a b) refl
 
 -- ── of a page ──
 
 -- what the checks before the rule have found of an accepted call, and the name c that the rule gave
-record Accepting (page : Bytes) (gap node sequence : ℕ) (c : Row) : Type 0 where
+record Accepting (page : Bytes) (gap : ℕ) (author : Author) (c : Row) : Type 0 where
   layout : keepsLayout page ≡ true
   order : rises page ≡ true
-  author : 1 ≤ node
+  node : 1 ≤ author .node
   inside : gap ≤ length (slotsOf page)
-  given : newName node sequence (nameBefore gap (namesOf page)) (nameAfter gap (namesOf page)) ≡ some c
+  given : newName author (nameBefore gap (namesOf page)) (nameAfter gap (namesOf page)) ≡ some c
   short : fits c ≡ true
-  named : newNameIn page gap node sequence .name ≡ c
+  named : newNameIn page gap author .name ≡ c
 
-module _ (page : Bytes) (gap node sequence : ℕ) where
-  accepting : newNameIn page gap node sequence .answer ≡ Accepted 0 → (c : Row) × Accepting page gap node sequence c
+module _ (page : Bytes) (gap : ℕ) (author : Author) where
+  accepting : newNameIn page gap author .answer ≡ Accepted 0 → (c : Row) × Accepting page gap author c
   unfolding newNameIn
-  accepting e = tests (keepsLayout page) refl (rises page) refl (leb 1 node) refl (leb gap (length (slotsOf page))) refl e
+  accepting e = tests (keepsLayout page) refl (rises page) refl (leb 1 (author .node)) refl (leb gap (length (slotsOf page))) refl e
     where
       x : Option Row
-      x = newName node sequence (nameBefore gap (namesOf page)) (nameAfter gap (namesOf page))
+      x = newName author (nameBefore gap (namesOf page)) (nameAfter gap (namesOf page))
 
-      tests : (t₁ : Bool) → keepsLayout page ≡ t₁ → (t₂ : Bool) → rises page ≡ t₂ → (t₃ : Bool) → leb 1 node ≡ t₃ → (t₄ : Bool) → leb gap (length (slotsOf page)) ≡ t₄ → ask t₁ (refuseName BadLayout) (ask t₂ (refuseName NotRising) (ask t₃ (refuseName NoAuthor) (ask t₄ (refuseName NoGap) (answerName x)))) .answer ≡ Accepted 0 → (c : Row) × Accepting page gap node sequence c
+      tests : (t₁ : Bool) → keepsLayout page ≡ t₁ → (t₂ : Bool) → rises page ≡ t₂ → (t₃ : Bool) → leb 1 (author .node) ≡ t₃ → (t₄ : Bool) → leb gap (length (slotsOf page)) ≡ t₄ → ask t₁ (refuseName BadLayout) (ask t₂ (refuseName NotRising) (ask t₃ (refuseName NoAuthor) (ask t₄ (refuseName NoGap) (answerName x)))) .answer ≡ Accepted 0 → (c : Row) × Accepting page gap author c
       tests false p₁ t₂ p₂ t₃ p₃ t₄ p₄ e = absurd (let z : _≡_ {A = ℕ} 0 1 = cc in omega arith)
       tests true p₁ false p₂ t₃ p₃ t₄ p₄ e = absurd (let z : _≡_ {A = ℕ} 0 1 = cc in omega arith)
       tests true p₁ true p₂ false p₃ t₄ p₄ e = absurd (let z : _≡_ {A = ℕ} 0 1 = cc in omega arith)
       tests true p₁ true p₂ true p₃ false p₄ e = absurd (let z : _≡_ {A = ℕ} 0 1 = cc in omega arith)
       tests true p₁ true p₂ true p₃ true p₄ e = by x refl e
         where
-          by : (o : Option Row) → x ≡ o → answerName o .answer ≡ Accepted 0 → (c : Row) × Accepting page gap node sequence c
+          by : (o : Option Row) → x ≡ o → answerName o .answer ≡ Accepted 0 → (c : Row) × Accepting page gap author c
           by none p e = absurd (let z : _≡_ {A = ℕ} 0 1 = cc in omega arith)
           by (some c) p e = fit (fits c) refl e
             where
-              fit : (t : Bool) → fits c ≡ t → ask t (refuseName TooDeep) (record { answer = Accepted 0; name = c }) .answer ≡ Accepted 0 → (c : Row) × Accepting page gap node sequence c
+              fit : (t : Bool) → fits c ≡ t → ask t (refuseName TooDeep) (record { answer = Accepted 0; name = c }) .answer ≡ Accepted 0 → (c : Row) × Accepting page gap author c
               fit false q e = absurd (let z : _≡_ {A = ℕ} 0 1 = cc in omega arith)
-              fit true q e = (c, record { layout = p₁; order = p₂; author = leb-true 1 node p₃; inside = leb-true gap (length (slotsOf page)) p₄; given = p; short = q; named = simp (p₁, p₂, p₃, p₄, p, q) })
+              fit true q e = (c, record { layout = p₁; order = p₂; node = leb-true 1 (author .node) p₃; inside = leb-true gap (length (slotsOf page)) p₄; given = p; short = q; named = simp (p₁, p₂, p₃, p₄, p, q) })
 
 -- the names of a page that keeps the layout, by their index, and none beyond it
 page-valid : (l : List Bytes) → every keepsSlot l ≡ true → (i : ℕ) → i < length (map nameIn (map slotOf l)) → Valid (getD (map nameIn (map slotOf l)) i [])
@@ -301,12 +302,12 @@ pub record InGap (page : Bytes) (gap : ℕ) (c : Row) : Type 0 where
   pub place : placeOf c (namesOf page) ≡ Gap gap
   pub absent : has c (namesOf page) ≡ false
 
-pub new-in-gap : (page : Bytes) (gap node sequence : ℕ) → node ≤ 65535 → sequence ≤ 4294967295 → newNameIn page gap node sequence .answer ≡ Accepted 0 → InGap page gap (newNameIn page gap node sequence .name)
-new-in-gap page gap node sequence hn hs e =
-    let w = accepting page gap node sequence e in
+pub new-in-gap : (page : Bytes) (gap : ℕ) (author : Author) → author .node ≤ 65535 → author .sequence ≤ 4294967295 → newNameIn page gap author .answer ≡ Accepted 0 → InGap page gap (newNameIn page gap author .name)
+new-in-gap page gap author hn hs e =
+    let w = accepting page gap author e in
     rw (w .1 .named) (shown (w .0) (w .1))
   where
-    shown : (c : Row) → Accepting page gap node sequence c → InGap page gap c
+    shown : (c : Row) → Accepting page gap author c → InGap page gap c
     shown c a = record { name = valid-name u; short = a .short; between = b; place = p; absent = absent c l gap p }
       where
         l : List Row
@@ -319,10 +320,10 @@ new-in-gap page gap node sequence hn hs e =
         long = length-map (slotsOf page) nameIn
 
         u : Valid c
-        u = rw (a .given) at (new-valid node sequence (record { node-min = a .author; node-max = hn; sequence-max = hs }) (nameBefore gap l) (nameAfter gap l) (before-name gap l (or-missing l f)) (or-missing l f gap))
+        u = rw (a .given) at (new-valid author (record { node-min = a .node; node-max = hn; sequence-max = hs }) (nameBefore gap l) (nameAfter gap l) (before-name gap l (or-missing l f)) (or-missing l f gap))
 
         b : Between (nameBefore gap l) (nameAfter gap l) c
-        b = rw (a .given) at (new-between node sequence (nameBefore gap l) (nameAfter gap l) (neighbours-rise gap l (rising-Rising l (a .order))))
+        b = rw (a .given) at (new-between author (nameBefore gap l) (nameAfter gap l) (neighbours-rise gap l (rising-Rising l (a .order))))
 
         p : placeOf c l ≡ Gap gap
         p = in-gap gap l c (rising-Rising l (a .order)) (omega (arith, a .inside, long)) f b

@@ -8,6 +8,7 @@ use lib.Dec.{leb, eqb}
 use lib.IntN.{pos}
 use lib.ListN.{length, getD}
 use lib.Signed.{nonNeg}
+use Rattle.names.specs.declared.Author.{Author}
 use Rattle.names.specs.declared.Tuple.{Tuple}
 use Rattle.names.specs.Ordering.{Row, compareTuples, isSame}
 use Rattle.names.specs.Names.{fits, lowered}
@@ -35,29 +36,29 @@ rest (s ∷ a) [] = none
 rest (s ∷ a) (t ∷ b) = cond (isSame (compareTuples s t)) (rest a b) none
 
 -- the author's tuple at a position: "author's node and sequence, offset 0"
-abbrev pub own : ℕ → ℕ → ℕ → Tuple
-own node sequence position = record { position = position; node = node; sequence = sequence; offset = pos 0 }
+abbrev pub own : Author → ℕ → Tuple
+own author position = record { position = position; node = author .node; sequence = author .sequence; offset = pos 0 }
 
-module _ (node sequence : ℕ) where
+module _ (author : Author) where
   -- "2. .. let y be b's first tuple after a. If y's position is 2 or more: a·(half that position rounded down, node,
   -- sequence, 0). If it is 1 and y's offset is at least 0: a·(y one offset lower)·(32768, node, sequence, 0). Otherwise
   -- answer 12."
   unfoldable pub beforeTuple : Row → Tuple → Option Row
   beforeTuple a y =
-      cond (leb 2 (y .position)) (some (a ++ (own node sequence (y .position / 2) ∷ [])))
+      cond (leb 2 (y .position)) (some (a ++ (own author (y .position / 2) ∷ [])))
       (cond (eqb (y .position) 1)
-      (cond (nonNeg (y .offset)) (some (a ++ (lowered y ∷ own node sequence 32768 ∷ []))) none) none)
+      (cond (nonNeg (y .offset)) (some (a ++ (lowered y ∷ own author 32768 ∷ []))) none) none)
 
   -- "2. Else if a is missing or a proper prefix of b .. 3. Else a·(32768, node, sequence, 0)."
   unfoldable pub closeBy : Row → Option Row → Option Row
   closeBy a (some (y ∷ u)) = beforeTuple a y
-  closeBy a (some []) = some (a ++ (own node sequence 32768 ∷ []))
-  closeBy a none = some (a ++ (own node sequence 32768 ∷ []))
+  closeBy a (some []) = some (a ++ (own author 32768 ∷ []))
+  closeBy a none = some (a ++ (own author 32768 ∷ []))
 
   -- "1. If they differ by 2 or more: one tuple, position half their sum rounded down, author's node and sequence, offset 0."
   unfoldable pub newName : Row → Row → Option Row
   newName a b =
-      cond (leb (firstBefore a + 2) (firstAfter b)) (some (own node sequence ((firstBefore a + firstAfter b) / 2) ∷ []))
+      cond (leb (firstBefore a + 2) (firstAfter b)) (some (own author ((firstBefore a + firstAfter b) / 2) ∷ []))
       (closeBy a (rest a b))
 
 -- the names before and after a gap
@@ -82,10 +83,10 @@ answerName none = refuseName NoNewName
 answerName (some c) = ask (fits c) (refuseName TooDeep) (record { answer = Accepted 0; name = c })
 
 -- "new name 1, 2, 4, 16, 12, 6"
-unfoldable pub newNameIn : Bytes → ℕ → ℕ → ℕ → Named
-newNameIn page gap node sequence =
+unfoldable pub newNameIn : Bytes → ℕ → Author → Named
+newNameIn page gap author =
     ask (keepsLayout page) (refuseName BadLayout)
     (ask (rises page) (refuseName NotRising)
-    (ask (leb 1 node) (refuseName NoAuthor)
+    (ask (leb 1 (author .node)) (refuseName NoAuthor)
     (ask (leb gap (length (slotsOf page))) (refuseName NoGap)
-    (answerName (newName node sequence (nameBefore gap (namesOf page)) (nameAfter gap (namesOf page)))))))
+    (answerName (newName author (nameBefore gap (namesOf page)) (nameAfter gap (namesOf page)))))))

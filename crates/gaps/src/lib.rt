@@ -10,6 +10,7 @@ ghost use lib.Signed.{nonNeg};
 ghost use Rattle.names.specs.Names.{rowOf, valueOf, lowered};
 ghost use Rattle.pages.specs.Pages.{namesOf};
 ghost use Rattle.gaps.specs.NewNames.{firstBefore, firstAfter, rest, own as ownTuple, beforeTuple, closeBy, newName, nameBefore, refuseName, answerName, newNameIn};
+use names::Author;
 use names::Name;
 use names::Order;
 use names::Tuple;
@@ -42,13 +43,13 @@ fn refused(r: Refusal) -> NewName
 }
 
 // "author's node and sequence, offset 0"
-fn own(node: u16, sequence: u32, position: u16) -> Tuple
-    ensures { λ r. ⌜ r ≡ ownTuple node sequence position ⌝ }
+fn own(author: Author, position: u16) -> Tuple
+    ensures { λ r. ⌜ r ≡ ownTuple author position ⌝ }
 {
     Tuple {
         position,
-        node,
-        sequence,
+        node: author.node,
+        sequence: author.sequence,
         offset: 0,
     }
 }
@@ -131,59 +132,59 @@ fn is_prefix(a: Name, b: Name) -> bool
 
 // "If y's position is 2 or more: a·(half that position rounded down, node, sequence, 0). If it is 1 and y's offset is at
 // least 0: a·(y one offset lower)·(32768, node, sequence, 0). Otherwise answer 12."
-fn before_tuple(a: Name, y: Tuple, node: u16, sequence: u32) -> NewName
-    ensures { λ r. ⌜ (r .answer ≡ answerName (beforeTuple node sequence (rowOf a) y) .answer) × (r .name ≡ valueOf (answerName (beforeTuple node sequence (rowOf a) y) .name)) ⌝ }
+fn before_tuple(a: Name, y: Tuple, author: Author) -> NewName
+    ensures { λ r. ⌜ (r .answer ≡ answerName (beforeTuple author (rowOf a) y) .answer) × (r .name ≡ valueOf (answerName (beforeTuple author (rowOf a) y) .name)) ⌝ }
 {
     if 2 <= y.position {
-        return extended(a, names::one(own(node, sequence, y.position / 2)));
+        return extended(a, names::one(own(author, y.position / 2)));
     }
     if y.position != 1 {
         return refused(Refusal::NoNewName);
     }
     if names::not_below_zero(y.offset) {
-        extended(a, two(names::one_lower(y), own(node, sequence, MIDDLE)))
+        extended(a, two(names::one_lower(y), own(author, MIDDLE)))
     } else {
         refused(Refusal::NoNewName)
     }
 }
 
 // "3. Else a·(32768, node, sequence, 0)."
-fn right_after(a: Name, node: u16, sequence: u32) -> NewName
-    ensures { λ r. ⌜ (r .answer ≡ answerName (some (rowOf a ++ (ownTuple node sequence 32768 ∷ []))) .answer) × (r .name ≡ valueOf (answerName (some (rowOf a ++ (ownTuple node sequence 32768 ∷ []))) .name)) ⌝ }
+fn right_after(a: Name, author: Author) -> NewName
+    ensures { λ r. ⌜ (r .answer ≡ answerName (some (rowOf a ++ (ownTuple author 32768 ∷ []))) .answer) × (r .name ≡ valueOf (answerName (some (rowOf a ++ (ownTuple author 32768 ∷ []))) .name)) ⌝ }
 {
-    extended(a, names::one(own(node, sequence, MIDDLE)))
+    extended(a, names::one(own(author, MIDDLE)))
 }
 
 // "2. Else if a is missing or a proper prefix of b, let y be b's first tuple after a."
-fn close_by(a: Name, b: Name, node: u16, sequence: u32) -> NewName
-    ensures { λ r. ⌜ (r .answer ≡ answerName (closeBy node sequence (rowOf a) (rest (rowOf a) (rowOf b))) .answer) × (r .name ≡ valueOf (answerName (closeBy node sequence (rowOf a) (rest (rowOf a) (rowOf b))) .name)) ⌝ }
+fn close_by(a: Name, b: Name, author: Author) -> NewName
+    ensures { λ r. ⌜ (r .answer ≡ answerName (closeBy author (rowOf a) (rest (rowOf a) (rowOf b))) .answer) × (r .name ≡ valueOf (answerName (closeBy author (rowOf a) (rest (rowOf a) (rowOf b))) .name)) ⌝ }
 {
     let n = names::tuples_in(a);
     if names::tuples_in(b) <= n {
-        return right_after(a, node, sequence);
+        return right_after(a, author);
     }
     if is_prefix(a, b) {
         let t = b.tuples;
-        before_tuple(a, t[n], node, sequence)
+        before_tuple(a, t[n], author)
     } else {
-        right_after(a, node, sequence)
+        right_after(a, author)
     }
 }
 
 // "1. If they differ by 2 or more: one tuple, position half their sum rounded down, author's node and sequence, offset 0."
-fn new_between(a: Name, b: Name, node: u16, sequence: u32) -> NewName
-    ensures { λ r. ⌜ (r .answer ≡ answerName (newName node sequence (rowOf a) (rowOf b)) .answer) × (r .name ≡ valueOf (answerName (newName node sequence (rowOf a) (rowOf b)) .name)) ⌝ }
+fn new_between(a: Name, b: Name, author: Author) -> NewName
+    ensures { λ r. ⌜ (r .answer ≡ answerName (newName author (rowOf a) (rowOf b)) .answer) × (r .name ≡ valueOf (answerName (newName author (rowOf a) (rowOf b)) .name)) ⌝ }
 {
     let low = first_before(a);
     let high = first_after(b);
     if low + 2 <= high {
-        let name = names::one(own(node, sequence, ((low + high) / 2) as u16));
+        let name = names::one(own(author, ((low + high) / 2) as u16));
         return NewName {
             answer: Answer::Accepted(0),
             name,
         };
     }
-    close_by(a, b, node, sequence)
+    close_by(a, b, author)
 }
 
 // The name before a gap; before the first slot there is none.
@@ -197,23 +198,18 @@ fn name_before(page: &[u8], gap: usize) -> Name
 }
 
 // 1, 2, 4, 16, 12, 6; else a new name for the gap before slot `gap`, or after the last.
-pub fn new_name(page: &[u8], gap: usize, node: u16, sequence: u32) -> NewName
-    ensures { λ r. ⌜ (r .answer ≡ newNameIn (now (page .entry)) gap node sequence .answer) × (r .name ≡ valueOf (newNameIn (now (page .entry)) gap node sequence .name)) ⌝ }
+pub fn new_name(page: &[u8], gap: usize, author: Author) -> NewName
+    ensures { λ r. ⌜ (r .answer ≡ newNameIn (now (page .entry)) gap author .answer) × (r .name ≡ valueOf (newNameIn (now (page .entry)) gap author .name)) ⌝ }
 {
     if pages::page_ok(page) {
         if pages::page_rises(page) {
-            if node < 1 {
+            if author.node < 1 {
                 return refused(Refusal::NoAuthor);
             }
             if page.len() / SLOT < gap {
                 return refused(Refusal::NoGap);
             }
-            new_between(
-                name_before(page, gap),
-                pages::name_of(page, gap),
-                node,
-                sequence,
-            )
+            new_between(name_before(page, gap), pages::name_of(page, gap), author)
         } else {
             refused(Refusal::NotRising)
         }

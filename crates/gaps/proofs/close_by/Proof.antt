@@ -26,7 +26,7 @@ right-after-requires c κs = search needs
 returns : tie.Need-returns
 returns c =
     let h : length (rowOf (c .before .before .before .before .args .b)) ≤ length (rowOf (c .before .before .before .before .args .a)) = omega arith in
-    given (c .right-after .result .answer) (c .right-after .result .name) (close-short (c .before .before .before .before .args .node) (c .before .before .before .before .args .sequence) (rowOf (c .before .before .before .before .args .a)) (rowOf (c .before .before .before .before .args .b)) h) (c .right-after .ensures)
+    given (c .right-after .result .answer) (c .right-after .result .name) (close-short (c .before .before .before .before .args .author) (rowOf (c .before .before .before .before .args .a)) (rowOf (c .before .before .before .before .args .b)) h) (c .right-after .ensures)
 
 is-prefix-requires : tie.Need-is-prefix-requires
 is-prefix-requires c κs = search needs
@@ -51,14 +51,14 @@ returns-2 c =
     let h : length a < length b = omega arith in
     let e = c .before .before .before .before .is-prefix .ensures ∙ ap (λ (t : Bool). cond t (some (drop (length a) b)) none) (c .before .before .before .if2 .taken) in
     let y = row-at (c .before .before .before .before .before .before .before .before .args .b) (c .before .before .before .before .before .before .tuples-in2 .result) n (c .before .before .before .before .before .before .tuples-in2 .ensures .0) (c .before .before .before .before .before .if1 .left) ∙ ap (λ (k : ℕ). getD b k m) (c .before .before .before .before .before .before .before .tuples-in .ensures .0) in
-    given (c .before-tuple .result .answer) (c .before-tuple .result .name) (ap (λ (t : Tuple). beforeTuple (c .before .before .before .before .before .before .before .before .args .node) (c .before .before .before .before .before .before .before .before .args .sequence) a t) y ∙ close-before (c .before .before .before .before .before .before .before .before .args .node) (c .before .before .before .before .before .before .before .before .args .sequence) a b e h) (c .before-tuple .ensures)
+    given (c .before-tuple .result .answer) (c .before-tuple .result .name) (ap (λ (t : Tuple). beforeTuple (c .before .before .before .before .before .before .before .before .args .author) a t) y ∙ close-before (c .before .before .before .before .before .before .before .before .args .author) a b e h) (c .before-tuple .ensures)
 
 returns-3 : tie.Need-returns-3
 returns-3 c =
     let a = rowOf (c .before .before .before .before .before .before .args .a) in
     let b = rowOf (c .before .before .before .before .before .before .args .b) in
     let e = c .before .before .is-prefix .ensures ∙ ap (λ (t : Bool). cond t (some (drop (length a) b)) none) (c .before .if2 .left) in
-    given (c .right-after2 .result .answer) (c .right-after2 .result .name) (close-apart (c .before .before .before .before .before .before .args .node) (c .before .before .before .before .before .before .args .sequence) a b e) (c .right-after2 .ensures)
+    given (c .right-after2 .result .answer) (c .right-after2 .result .name) (close-apart (c .before .before .before .before .before .before .args .author) a b e) (c .right-after2 .ensures)
 
 pub close-by-spec : {M : Type 1} → statement M
 close-by-spec =

@@ -37,12 +37,11 @@ returns : tie.Need-returns
 returns c =
     let a = rowOf (c .before .before .before .before .before .args .a) in
     let b = rowOf (c .before .before .before .before .before .args .b) in
-    let node = c .before .before .before .before .before .args .node in
-    let sequence = c .before .before .before .before .before .args .sequence in
+    let author = c .before .before .before .before .before .args .author in
     let h : firstBefore a + 2 ≤ firstAfter b = omega arith in
     let p : (c .before .before .before .before .first-before .result + c .before .before .before .first-after .result) / 2 ≡ (firstBefore a + firstAfter b) / 2 = λ i. (c .before .before .before .before .first-before .ensures .0 i + c .before .before .before .first-after .ensures .0 i) / 2 in
-    let e = c .one .ensures ∙ ap (λ (t : Tuple). valueOf (t ∷ [])) (c .before .own .ensures ∙ ap (λ (n : ℕ). own node sequence n) p) in
-    given (Accepted 0) (c .one .result) (new-apart node sequence a b h) (refl, e)
+    let e = c .one .ensures ∙ ap (λ (t : Tuple). valueOf (t ∷ [])) (c .before .own .ensures ∙ ap (λ (n : ℕ). own author n) p) in
+    given (Accepted 0) (c .one .result) (new-apart author a b h) (refl, e)
 
 close-by-requires : tie.Need-close-by-requires
 close-by-requires c κs = search needs
@@ -52,7 +51,7 @@ returns-2 c =
     let a = rowOf (c .before .before .before .before .args .a) in
     let b = rowOf (c .before .before .before .before .args .b) in
     let h : firstAfter b < firstBefore a + 2 = omega arith in
-    given (c .close-by .result .answer) (c .close-by .result .name) (new-close (c .before .before .before .before .args .node) (c .before .before .before .before .args .sequence) a b h) (c .close-by .ensures)
+    given (c .close-by .result .answer) (c .close-by .result .name) (new-close (c .before .before .before .before .args .author) a b h) (c .close-by .ensures)
 
 pub new-between-spec : {M : Type 1} → statement M
 new-between-spec =

@@ -26,8 +26,8 @@ refused-requires c κs = search needs
 returns : tie.Need-returns
 unfolding newNameIn
 returns c =
-    let e : leb 1 (c .before .before .before .before .before .before .before .args .node) ≡ false = lt-leb 1 (c .before .before .before .before .before .before .before .args .node) (c .before .if3 .taken) in
-    simp (sym (c .before .before .before .before .before .page-ok .ensures) ∙ c .before .before .before .before .if1 .taken, sym (c .before .before .before .page-rises .ensures) ∙ c .before .before .if2 .taken, e) (c .refused .ensures)
+    let e : leb 1 (c .before .before .before .before .before .before .before .before .args .author .node) ≡ false = lt-leb 1 (c .before .before .before .before .before .before .before .before .args .author .node) (c .before .if3 .taken) in
+    simp (sym (c .before .before .before .before .before .before .page-ok .ensures) ∙ c .before .before .before .before .before .if1 .taken, sym (c .before .before .before .before .page-rises .ensures) ∙ c .before .before .before .if2 .taken, e) (c .refused .ensures)
 
 refused-requires-2 : tie.Need-refused-requires-2
 refused-requires-2 c κs = search needs
@@ -35,10 +35,10 @@ refused-requires-2 c κs = search needs
 returns-2 : tie.Need-returns-2
 unfolding newNameIn
 returns-2 c =
-    let s = now (c .before .before .before .before .before .before .before .before .args .page) in
-    let e : leb 1 (c .before .before .before .before .before .before .before .before .args .node) ≡ true = le-leb 1 (c .before .before .before .before .before .before .before .before .args .node) (c .before .before .if3 .left) in
-    let g : leb (c .before .before .before .before .before .before .before .before .args .gap) (length (slotsOf s)) ≡ false = lt-leb (c .before .before .before .before .before .before .before .before .args .gap) (length (slotsOf s)) (omega (arith, length-slots s)) in
-    simp (sym (c .before .before .before .before .before .before .page-ok .ensures) ∙ c .before .before .before .before .before .if1 .taken, sym (c .before .before .before .before .page-rises .ensures) ∙ c .before .before .before .if2 .taken, e, g) (c .refused2 .ensures)
+    let s = now (c .before .before .before .before .before .before .before .before .before .args .page) in
+    let e : leb 1 (c .before .before .before .before .before .before .before .before .before .args .author .node) ≡ true = le-leb 1 (c .before .before .before .before .before .before .before .before .before .args .author .node) (c .before .before .if3 .left) in
+    let g : leb (c .before .before .before .before .before .before .before .before .before .args .gap) (length (slotsOf s)) ≡ false = lt-leb (c .before .before .before .before .before .before .before .before .before .args .gap) (length (slotsOf s)) (omega (arith, length-slots s)) in
+    simp (sym (c .before .before .before .before .before .before .before .page-ok .ensures) ∙ c .before .before .before .before .before .before .if1 .taken, sym (c .before .before .before .before .before .page-rises .ensures) ∙ c .before .before .before .before .if2 .taken, e, g) (c .refused2 .ensures)
 
 name-before-requires : tie.Need-name-before-requires
 name-before-requires c κs = search needs
@@ -58,11 +58,11 @@ refused-requires-4 c κs = search needs
 returns-3 : tie.Need-returns-3
 unfolding newNameIn
 returns-3 c =
-    let s = now (c .before .before .before .before .before .before .before .before .before .before .args .page) in
-    let e : leb 1 (c .before .before .before .before .before .before .before .before .before .before .args .node) ≡ true = le-leb 1 (c .before .before .before .before .before .before .before .before .before .before .args .node) (c .before .before .before .before .if3 .left) in
-    let g : leb (c .before .before .before .before .before .before .before .before .before .before .args .gap) (length (slotsOf s)) ≡ true = le-leb (c .before .before .before .before .before .before .before .before .before .before .args .gap) (length (slotsOf s)) (omega (arith, length-slots s)) in
-    let w = given (c .new-between .result .answer) (c .new-between .result .name) (λ i. newName (c .before .before .before .before .before .before .before .before .before .before .args .node) (c .before .before .before .before .before .before .before .before .before .before .args .sequence) (c .before .before .name-before .ensures i) (c .before .name-of .ensures i)) (c .new-between .ensures) in
-    simp (sym (c .before .before .before .before .before .before .before .before .page-ok .ensures) ∙ c .before .before .before .before .before .before .before .if1 .taken, sym (c .before .before .before .before .before .before .page-rises .ensures) ∙ c .before .before .before .before .before .if2 .taken, e, g) w
+    let s = now (c .before .before .before .before .before .before .before .before .before .before .before .args .page) in
+    let e : leb 1 (c .before .before .before .before .before .before .before .before .before .before .before .args .author .node) ≡ true = le-leb 1 (c .before .before .before .before .before .before .before .before .before .before .before .args .author .node) (c .before .before .before .before .if3 .left) in
+    let g : leb (c .before .before .before .before .before .before .before .before .before .before .before .args .gap) (length (slotsOf s)) ≡ true = le-leb (c .before .before .before .before .before .before .before .before .before .before .before .args .gap) (length (slotsOf s)) (omega (arith, length-slots s)) in
+    let w = given (c .new-between .result .answer) (c .new-between .result .name) (λ i. newName (c .before .before .before .before .before .before .before .before .before .before .before .args .author) (c .before .before .name-before .ensures i) (c .before .name-of .ensures i)) (c .new-between .ensures) in
+    simp (sym (c .before .before .before .before .before .before .before .before .before .page-ok .ensures) ∙ c .before .before .before .before .before .before .before .before .if1 .taken, sym (c .before .before .before .before .before .before .before .page-rises .ensures) ∙ c .before .before .before .before .before .before .if2 .taken, e, g) w
 
 returns-4 : tie.Need-returns-4
 unfolding newNameIn
