@@ -217,7 +217,7 @@ fn append(a: Name, b: Name, from: usize) -> Name
     r
 }
 
-// Two rows joined, and whether they are at most LIMIT tuples together.
+// What has become of names, as two rows joined: whether it has at most LIMIT tuples, and the name, of no tuples where it has more.
 pub struct Joined {
     pub fits: bool,
     pub name: Name,
