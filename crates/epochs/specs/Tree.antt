@@ -1,5 +1,6 @@
 -- The epoch tree: document 01, "Epoch tree", and 001, section 5.2. An epoch is the index of its entry in the table t.
 use Prim.Native.Nat.{ℕ, zero, suc, _+_, _-_}
+use mathlib.Core.Path.{_≡_}
 use mathlib.Core.List.{List, [], _∷_, _++_, map}
 use mathlib.Core.Bool.{cond}
 use lib.ListN.{length}
@@ -46,6 +47,9 @@ comparePaths (e ∷ p) (f ∷ q) = then (compareKeys e f) (comparePaths p q)
 -- epochs compare as their paths do
 abbrev pub compareEpochs : List Entry → ℕ → ℕ → Order
 compareEpochs t i j = comparePaths (path t i) (path t j)
+
+abbrev pub Smaller : List Entry → ℕ → ℕ → Type 0
+Smaller t i j = compareEpochs t i j ≡ Less
 
 -- ── the target ──
 
