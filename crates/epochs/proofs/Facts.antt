@@ -1,11 +1,12 @@
--- What the check of a table says (`Table`, `table`). Assumes nothing.
-use mathlib.Core.Path.{_≡_, refl, sym, ap}
+-- What the check of a table says (`Table`): a checked table has these facts (`table`), and a table with them is accepted
+-- (`is-table`). Assumes nothing.
+use mathlib.Core.Path.{_≡_, refl, ap}
 use mathlib.Core.List.{List, [], _∷_}
 use mathlib.Core.Bool.{Bool, true, false, not, _&&_, _||_}
 use Prim.Native.Nat.{ℕ, zero, suc, _+_, _<_, _≤_}
 use native.Mathlib.Decide.{decLt}
 use native.Mathlib.Omega.{arith}
-use borrow.Author.Tests.{ltb-true, leb-true, eqb-true, not-true, eq-eqb}
+use borrow.Author.Tests.{ltb-true, leb-true, eqb-true, not-true, eq-eqb, lt-ltb, le-leb}
 use lib.Dec.{eqb, leb, ltb}
 use lib.ListN.{length, take, drop, getD, length-drop, length-take, List·getD-eq-default}
 use lib.Seq.{getD-take, getD-drop}
@@ -94,3 +95,42 @@ module _ (t : List Entry) (h : isTable t ≡ true) where
     ];
     pair = λ i j g k a b. yes-no (λ x. (eq-eqb (entryAt t j .node) (entryAt t i .node) a x) && (eq-eqb (entryAt t j .sequence) (entryAt t i .sequence) b x)) (pairs i j g k);
   }
+
+-- ── and back ──
+
+both : {a b : Bool} → a ≡ true → b ≡ true → a && b ≡ true
+both p q = λ i. p i && q i
+
+keeps : (t : List Entry) (k : ℕ) (l : List Entry) → ((i : ℕ) → i < length l → keepsEntry t (k + i) (getD l i zeroEntry) ≡ true) → keepsFrom t k l ≡ true
+keeps t k [] f = refl
+keeps t k (e ∷ l) f =
+    let p : k + 0 ≡ k = omega arith in
+    both (rw p at (f 0 (omega arith))) (keeps t (suc k) l (λ i g. let q : k + suc i ≡ suc k + i = omega arith in rw q at (f (suc i) (omega arith))))
+
+pair-differs : (e f : Entry) → (e .node ≡ f .node → e .sequence ≡ f .sequence → ⊥) → samePair e f ≡ false
+pair-differs e f g = go (eqb (e .node) (f .node)) (eqb (e .sequence) (f .sequence)) refl refl
+  where
+    go : (a b : Bool) → eqb (e .node) (f .node) ≡ a → eqb (e .sequence) (f .sequence) ≡ b → a && b ≡ false
+    go false b p q = refl
+    go true false p q = refl
+    go true true p q = absurd (g (eqb-true (e .node) (f .node) p) (eqb-true (e .sequence) (f .sequence) q))
+
+none-listed : (e : Entry) (l : List Entry) → ((i : ℕ) → i < length l → samePair e (getD l i zeroEntry) ≡ false) → listed e l ≡ false
+none-listed e [] f = refl
+none-listed e (x ∷ l) f = λ i. f 0 (omega arith) i || none-listed e l (λ j g. f (suc j) (omega arith)) i
+
+pub is-table : (t : List Entry) → Table t → isTable t ≡ true
+unfolding isTable
+is-table t h = both (both (both (le-leb 1 (length t) (h .some)) (le-leb (length t) maxEntries (h .few))) (ap isFirst (h .first))) (keeps t 1 (drop 1 t) go)
+  where
+    entry-kept : (i : ℕ) → suc i < length t → keepsEntry t (suc i) (entryAt t (suc i)) ≡ true
+    entry-kept i g =
+        let p : parentOf t (suc i) ≤ i = h .parent i in
+        both (both (le-leb 1 (entryAt t (suc i) .node) (h .node i g)) (lt-ltb (parentOf t (suc i)) (suc i) (omega arith)))
+        (ap not (none-listed (entryAt t (suc i)) (take (suc i) t) (λ j l. let k = length-take (suc i) t in let q : j < suc i = omega arith in rw (getD-take (suc i) t j zeroEntry q) (pair-differs (entryAt t (suc i)) (entryAt t j) (h .pair j (suc i) q g)))))
+
+    go : (i : ℕ) → i < length (drop 1 t) → keepsEntry t (1 + i) (getD (drop 1 t) i zeroEntry) ≡ true
+    go i g =
+        let q : 1 + i ≡ suc i = omega arith in
+        let l : suc i < length t = let k = length-drop 1 t in omega arith in
+        rw (getD-drop 1 t i zeroEntry, q) (entry-kept i l)

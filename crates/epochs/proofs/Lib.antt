@@ -1,3 +1,4 @@
 pub mod Facts
 pub mod Routes
 pub mod Priority
+pub mod Walking
