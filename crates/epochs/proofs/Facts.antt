@@ -33,7 +33,7 @@ or-1 true b e = yes-no refl e
 or-1 false b e = e
 
 -- no entry of the list has the pair
-not-listed : (e : Entry) (l : List Entry) (i : ℕ) → listed e l ≡ false → i < length l → samePair e (getD l i zeroEntry) ≡ false
+pub not-listed : (e : Entry) (l : List Entry) (i : ℕ) → listed e l ≡ false → i < length l → samePair e (getD l i zeroEntry) ≡ false
 not-listed e [] i h g = absurd (omega arith)
 not-listed e (f ∷ l) zero h g = or-0 (samePair e f) (listed e l) h
 not-listed e (f ∷ l) (suc i) h g = not-listed e l i (or-1 (samePair e f) (listed e l) h) (omega arith)

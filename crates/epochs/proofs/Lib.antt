@@ -2,3 +2,4 @@ pub mod Facts
 pub mod Routes
 pub mod Priority
 pub mod Walking
+pub mod Adding

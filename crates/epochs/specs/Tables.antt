@@ -83,3 +83,14 @@ isTable t = within 1 maxEntries (length t) && isFirst (entryAt t 0) && keepsFrom
 -- "A length that is no whole number of slots or entries breaks the layout."
 unfoldable pub keepsTable : Bytes → Bool
 keepsTable s = eqb (length s % entrySize) 0 && isTable (entriesOf s)
+
+-- ── adding ──
+
+-- "Adding an epoch appends one entry in a second table." (01, "Epoch tree")
+abbrev pub added : List Entry → Entry → List Entry
+added t e = t ++ (e ∷ [])
+
+-- what is asked of an entry to add to a table: the parent index is in the table, "author node" is not 0, the epoch is not "already
+-- listed", and the table does not have "32 entries"
+unfoldable pub mayAdd : List Entry → Entry → Bool
+mayAdd t e = ltb (e .parent) (length t) && leb 1 (e .node) && not (listed e t) && ltb (length t) maxEntries

