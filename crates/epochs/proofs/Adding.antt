@@ -2,23 +2,25 @@
 -- comparisons of its epochs are as before (`added-route`, `added-path`, `added-compare`); the new epoch's route and path are its
 -- parent's and one more (`new-route`, `new-path`); the target is as before, or it is the new epoch and greater (`added-target`,
 -- `target-grows`). Assumes nothing.
-use mathlib.Core.Path.{_≡_, refl, sym, ap, subst, _∙_}
+use mathlib.Core.Path.{_≡_, refl, sym, ap, _∙_}
 use mathlib.Core.Logic.{_⊎_, inl, inr}
 use mathlib.Core.List.{List, [], _∷_, _++_, map, map-append}
-use mathlib.Core.Bool.{true, false, not, _&&_}
+use mathlib.Core.Bool.{true, false, cond, not, _&&_}
 use Prim.Native.Nat.{ℕ, zero, suc, _+_, _-_, _<_, _≤_}
 use native.Mathlib.Omega.{arith}
 use borrow.Author.Tests.{ltb-true, leb-true, not-true, eq-eqb}
 use lib.Dec.{leb, ltb}
 use lib.ListN.{length, length-append, List·getD-append, List·getD-eq-default}
 use lib.Seq.{getD-append-seam}
+use Rattle.names.specs.declared.Order.{Order}
 use Rattle.names.specs.declared.Order.the-variants.{Less}
+use Rattle.names.specs.Ordering.{isLess}
 use Rattle.names.proofs.Laws.{ℕ-cases, and-0, and-1, yes-no}
-use Rattle.epochs.specs.Tables.{Entry, maxEntries, zeroEntry, entryAt, samePair, listed, isTable, added, mayAdd}
+use Rattle.epochs.specs.Tables.{Entry, maxEntries, zeroEntry, entryAt, listed, isTable, added, mayAdd}
 use Rattle.epochs.specs.Tree.{parentOf, routeWithin, route, path, comparePaths, compareEpochs, greatestTo, greater, target}
-use Rattle.epochs.proofs.Facts.{Table, table, is-table, not-listed}
+use Rattle.epochs.proofs.Facts.{Table, is-table, not-listed}
 use Rattle.epochs.proofs.Routes.{route-suc, path-suc}
-use Rattle.epochs.proofs.Priority.{target-in, greatest-to}
+use Rattle.epochs.proofs.Priority.{target-in, greatest-in, greatest-to}
 
 module _ (t : List Entry) (h : Table t) (e : Entry) where
   -- ── the epochs of the table ──
@@ -117,7 +119,7 @@ module _ (t : List Entry) (h : Table t) (e : Entry) where
       ]
     ]
 
-    table-added : Table (added t e)
+    pub table-added : Table (added t e)
     table-added = record {
       some = let q = added-length in omega arith;
       few = let q = added-length in let p : length t < 32 = has-room in omega arith;
@@ -130,3 +132,57 @@ module _ (t : List Entry) (h : Table t) (e : Entry) where
     -- "adding keeps a table a table"
     pub added-table : isTable (added t e) ≡ true
     added-table = is-table (added t e) table-added
+
+    new-parent : (i : ℕ) → i ≡ length t → parentOf (added t e) i ≡ e .parent
+    new-parent i q = ap (λ (x : Entry). x .parent) (new-at i q)
+
+    route-at : (i : ℕ) → i ≡ length t → route (added t e) i ≡ route t (e .parent) ++ (i ∷ [])
+    route-at zero q = absurd (let k : 0 < length t = h .some in omega arith)
+    route-at (suc i) q =
+        route-suc (added t e) table-added i
+        ∙ ap (λ (r : List ℕ). r ++ (suc i ∷ [])) (ap (route (added t e)) (new-parent (suc i) q) ∙ added-route (e .parent) in-table)
+
+    -- the parent's route, and the new index
+    pub new-route : route (added t e) (length t) ≡ route t (e .parent) ++ (length t ∷ [])
+    new-route = route-at (length t) refl
+
+    path-at : (i : ℕ) → i ≡ length t → path (added t e) i ≡ path t (e .parent) ++ (e ∷ [])
+    path-at zero q = absurd (let k : 0 < length t = h .some in omega arith)
+    path-at (suc i) q =
+        path-suc (added t e) table-added i
+        ∙ (λ z. (ap (path (added t e)) (new-parent (suc i) q) ∙ added-path (e .parent) in-table) z ++ (new-at (suc i) q z ∷ []))
+
+    -- the parent's path, and the new entry
+    pub new-path : path (added t e) (length t) ≡ path t (e .parent) ++ (e ∷ [])
+    new-path = path-at (length t) refl
+
+    -- ── the target ──
+
+    greatest-kept : (n : ℕ) → n < length t → greatestTo (added t e) n ≡ greatestTo t n
+    greatest-kept zero l = refl
+    greatest-kept (suc n) l =
+        let k : greatestTo t n ≤ n = greatest-in t h n in
+        ap (λ (g : ℕ). greater (added t e) g (suc n)) (greatest-kept n (omega arith))
+        ∙ ap (λ (o : Order). cond (isLess o) (suc n) (greatestTo t n)) (added-compare (greatestTo t n) (suc n) (omega arith) l)
+
+    greatest-at : (i : ℕ) → i ≡ length t → greatestTo (added t e) i ≡ greater (added t e) (target t) i
+    greatest-at zero q = absurd (let k : 0 < length t = h .some in omega arith)
+    greatest-at (suc i) q =
+        let p : i ≡ length t - 1 = omega arith in
+        ap (λ (g : ℕ). greater (added t e) g (suc i)) (greatest-kept i (omega arith) ∙ ap (greatestTo t) p)
+
+    -- the greater of the target before and the new epoch
+    pub added-target : target (added t e) ≡ greater (added t e) (target t) (length t)
+    added-target =
+        let p : length (added t e) - 1 ≡ length t = let q = added-length in omega arith in
+        ap (greatestTo (added t e)) p ∙ greatest-at (length t) refl
+
+    -- the target does not get smaller
+    pub target-grows : (target (added t e) ≡ target t) ⊎ (comparePaths (path t (target t)) (path (added t e) (target (added t e))) ≡ Less)
+    target-grows =
+        let q = added-length in
+        let k : target t < length t = target-in t h in
+        elim (greatest-to (added t e) table-added (length (added t e) - 1) (omega arith) (target t) (omega arith)) [
+          | inl p ↦ inl (sym p)
+          | inr s ↦ inr (ap (λ (x : List Entry). comparePaths x (path (added t e) (target (added t e)))) (sym (added-path (target t) k)) ∙ s)
+        ]

@@ -92,7 +92,7 @@ module _ (t : List Entry) where
 
     -- ── the target ──
 
-    greatest-in : (n : ℕ) → greatestTo t n ≤ n
+    pub greatest-in : (n : ℕ) → greatestTo t n ≤ n
     greatest-in zero = le-refl 0
     greatest-in (suc n) = go (isLess (compareEpochs t (greatestTo t n) (suc n))) (greatest-in n)
       where
