@@ -3,3 +3,4 @@ pub mod Routes
 pub mod Priority
 pub mod Walking
 pub mod Adding
+pub mod Encoded

@@ -45,6 +45,10 @@ entriesOf s = map entryOf (entryParts (length s / entrySize) s)
 abbrev pub entryBytes : Entry → Bytes
 entryBytes e = bytes16 (e .node) ++ bytes32 (e .sequence) ++ bytes16 (e .parent)
 
+-- the entries' bytes, one after the other: the pieces of a written table
+abbrev pub entryPieces : List Entry → List Bytes
+entryPieces t = map entryBytes t
+
 -- ── the layout ──
 
 abbrev pub zeroEntry : Entry

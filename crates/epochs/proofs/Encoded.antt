@@ -1,0 +1,88 @@
+-- A table's bytes and the list of its entries: `table-back`, the bytes of the entries of a table are the table; `entries-back`, the
+-- entries of the bytes of some entries are these entries, and if they make a table the bytes are one (`written-table`). Entry k is
+-- read from its place in the bytes (`entry-at`). Assumes nothing.
+use mathlib.Core.Path.{_≡_, refl, sym, ap, _∙_}
+use mathlib.Core.List.{List, [], _∷_, _++_, map, flatten}
+use mathlib.Core.Bool.{true, _&&_}
+use Prim.Native.Nat.{ℕ, zero, suc, _+_, _*_, _/_, _%_, _<_}
+use native.Mathlib.Omega.{arith}
+use borrow.Author.Tests.{eqb-true, eq-eqb}
+use lib.Dec.{eqb}
+use lib.ListN.{length, take, drop, getD, length-append, length-take, length-drop, length-map, take-append-drop}
+use lib.Seq.{getD-take, getD-drop, take-at, drop-at, ext-getD}
+use Rattle.names.proofs.Laws.{and-0, and-1}
+use Rattle.slots.specs.Bytes.{Bytes, Octets, at16, at32}
+use Rattle.pages.proofs.RoundTrip.{octets-take, octets-drop, flat, flat-none}
+use Rattle.epochs.specs.Tables.{Entry, entrySize, zeroEntry, entryAt, entryIn, entryOf, entryParts, entriesOf, entryBytes, entryPieces, isTable, keepsTable}
+
+entry-≡ : {e f : Entry} → e .node ≡ f .node → e .sequence ≡ f .sequence → e .parent ≡ f .parent → e ≡ f
+entry-≡ a b c = λ i. record { node = a i; sequence = b i; parent = c i }
+
+-- ── from entries and back ──
+
+pub entry-back : (e : Entry) (s : Bytes) → entryOf (entryBytes e ++ s) ≡ e
+entry-back e s = entry-≡ (omega arith) (omega arith) (omega arith)
+
+pub written-length : (t : List Entry) → length (flatten (entryPieces t)) ≡ entrySize * length t
+written-length [] = ap length flat-none
+written-length (e ∷ t) =
+    let b = written-length t in
+    ap length (flat (entryBytes e) (entryPieces t)) ∙ length-append (entryBytes e) (flatten (entryPieces t)) ∙ omega arith
+
+parts-back : (t : List Entry) → map entryOf (entryParts (length t) (flatten (entryPieces t))) ≡ t
+parts-back [] = refl
+parts-back (e ∷ t) =
+    let f = flat (entryBytes e) (entryPieces t) in
+    let a = ap (take entrySize) f ∙ take-at (entryBytes e) (flatten (entryPieces t)) entrySize refl in
+    let d = ap (drop entrySize) f ∙ drop-at (entryBytes e) (flatten (entryPieces t)) entrySize refl in
+    λ i. (ap entryOf a ∙ entry-back e []) i ∷ (ap (λ (s : Bytes). map entryOf (entryParts (length t) s)) d ∙ parts-back t) i
+
+pub entries-back : (t : List Entry) → entriesOf (flatten (entryPieces t)) ≡ t
+entries-back t =
+    let n : length (flatten (entryPieces t)) / entrySize ≡ length t = let q = written-length t in omega arith in
+    ap (λ (k : ℕ). map entryOf (entryParts k (flatten (entryPieces t)))) n ∙ parts-back t
+
+pub written-table : (t : List Entry) → isTable t ≡ true → keepsTable (flatten (entryPieces t)) ≡ true
+unfolding keepsTable
+written-table t h =
+    let z : length (flatten (entryPieces t)) % entrySize ≡ 0 = let q = written-length t in omega arith in
+    λ i. eq-eqb (length (flatten (entryPieces t)) % entrySize) 0 z i && (ap isTable (entries-back t) ∙ h) i
+
+-- ── from bytes and back ──
+
+bytes-back : (s : Bytes) → Octets s → length s ≡ entrySize → entryBytes (entryOf s) ≡ s
+bytes-back s k l = ext-getD 0 (entryBytes (entryOf s)) s (sym l) at
+  where
+    at : (i : ℕ) → i < 8 → getD (entryBytes (entryOf s)) i 0 ≡ getD s i 0
+    at zero h = let b = k 1 in omega arith
+    at (suc zero) h = let b = k 1 in omega arith
+    at (suc (suc zero)) h = let b = k 3 in let c = k 4 in let d = k 5 in omega arith
+    at (suc (suc (suc zero))) h = let b = k 3 in let c = k 4 in let d = k 5 in omega arith
+    at (suc (suc (suc (suc zero)))) h = let c = k 4 in let d = k 5 in omega arith
+    at (suc (suc (suc (suc (suc zero))))) h = let c = k 4 in let d = k 5 in omega arith
+    at (suc (suc (suc (suc (suc (suc zero)))))) h = let b = k 7 in omega arith
+    at (suc (suc (suc (suc (suc (suc (suc zero))))))) h = let b = k 7 in omega arith
+    at (suc (suc (suc (suc (suc (suc (suc (suc i)))))))) h = absurd (omega arith)
+
+all-back : (n : ℕ) (s : Bytes) → Octets s → length s ≡ entrySize * n → flatten (entryPieces (map entryOf (entryParts n s))) ≡ s
+all-back zero [] k e = flat-none
+all-back zero (x ∷ s) k e = absurd (let z : suc (length s) ≡ 0 = e ∙ omega arith in omega arith)
+all-back (suc n) s k e =
+    let a : length (take entrySize s) ≡ entrySize = let q = length-take entrySize s in omega arith in
+    let b : length (drop entrySize s) ≡ entrySize * n = let q = length-drop entrySize s in omega arith in
+    flat (entryBytes (entryOf (take entrySize s))) (entryPieces (map entryOf (entryParts n (drop entrySize s))))
+    ∙ (λ i. bytes-back (take entrySize s) (octets-take entrySize s k) a i ++ all-back n (drop entrySize s) (octets-drop entrySize s k) b i)
+    ∙ take-append-drop entrySize s
+
+-- a whole number of entries
+pub whole : (s : Bytes) → keepsTable s ≡ true → length s ≡ entrySize * (length s / entrySize)
+unfolding keepsTable
+whole s h = let z = eqb-true (length s % entrySize) 0 (and-0 (eqb (length s % entrySize) 0) (isTable (entriesOf s)) h) in omega arith
+
+-- which are a table
+pub entries-table : (s : Bytes) → keepsTable s ≡ true → isTable (entriesOf s) ≡ true
+unfolding keepsTable
+entries-table s h = and-1 (eqb (length s % entrySize) 0) (isTable (entriesOf s)) h
+
+pub table-back : (s : Bytes) → Octets s → keepsTable s ≡ true → flatten (entryPieces (entriesOf s)) ≡ s
+table-back s k h = all-back (length s / entrySize) s k (whole s h)
