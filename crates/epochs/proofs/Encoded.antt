@@ -11,7 +11,7 @@ use lib.Dec.{eqb}
 use lib.ListN.{length, take, drop, getD, length-append, length-take, length-drop, length-map, take-append-drop}
 use lib.Seq.{getD-take, getD-drop, take-at, drop-at, ext-getD}
 use Rattle.names.proofs.Laws.{and-0, and-1}
-use Rattle.slots.specs.Bytes.{Bytes, Octets, at16, at32}
+use Rattle.slots.specs.Bytes.{Bytes, Octets, at16}
 use Rattle.pages.proofs.RoundTrip.{octets-take, octets-drop, flat, flat-none}
 use Rattle.epochs.specs.Tables.{Entry, entrySize, zeroEntry, entryAt, entryIn, entryOf, entryParts, entriesOf, entryBytes, entryPieces, isTable, keepsTable}
 
@@ -86,3 +86,37 @@ entries-table s h = and-1 (eqb (length s % entrySize) 0) (isTable (entriesOf s))
 
 pub table-back : (s : Bytes) → Octets s → keepsTable s ≡ true → flatten (entryPieces (entriesOf s)) ≡ s
 table-back s k h = all-back (length s / entrySize) s k (whole s h)
+
+-- ── an entry by its place ──
+
+length-parts : (n : ℕ) (s : Bytes) → length (entryParts n s) ≡ n
+length-parts zero s = refl
+length-parts (suc n) s = ap suc (length-parts n (drop entrySize s))
+
+pub length-entries : (s : Bytes) → length (entriesOf s) ≡ length s / entrySize
+length-entries s = length-map (entryParts (length s / entrySize) s) entryOf ∙ length-parts (length s / entrySize) s
+
+-- what stands n bytes further on
+module _ (n : ℕ) (s : Bytes) where
+  byte-on : (p q : ℕ) → q ≡ n + p → getD (drop n s) p 0 ≡ getD s q 0
+  byte-on p q e = getD-drop n s p 0 ∙ ap (λ (i : ℕ). getD s i 0) (sym e)
+
+  two-on : (p q : ℕ) → q ≡ n + p → at16 (drop n s) p ≡ at16 s q
+  two-on p q e = λ i. byte-on p q e i * 256 + byte-on (p + 1) (q + 1) (omega arith) i
+
+  entry-on : (p q : ℕ) → q ≡ n + p → entryIn (drop n s) p ≡ entryIn s q
+  entry-on p q e = entry-≡ (two-on p q e) (λ i. two-on (p + 2) (q + 2) (omega arith) i * 65536 + two-on (p + 2 + 2) (q + 2 + 2) (omega arith) i) (two-on (p + 6) (q + 6) (omega arith))
+
+entry-taken : (s : Bytes) → entryOf (take entrySize s) ≡ entryOf s
+entry-taken s = entry-≡ (two 0 (omega arith)) (λ i. two 2 (omega arith) i * 65536 + two 4 (omega arith) i) (two 6 (omega arith))
+  where
+    two : (j : ℕ) → j + 1 < entrySize → at16 (take entrySize s) j ≡ at16 s j
+    two j h = λ i. getD-take entrySize s j 0 (omega arith) i * 256 + getD-take entrySize s (j + 1) 0 h i
+
+entries-at : (n : ℕ) (s : Bytes) (k : ℕ) → k < n → getD (map entryOf (entryParts n s)) k zeroEntry ≡ entryIn s (entrySize * k)
+entries-at zero s k h = absurd (omega arith)
+entries-at (suc n) s zero h = entry-taken s
+entries-at (suc n) s (suc k) h = entries-at n (drop entrySize s) k (omega arith) ∙ entry-on entrySize s (entrySize * k) (entrySize * suc k) (omega arith)
+
+pub entry-at : (s : Bytes) (k : ℕ) → k < length s / entrySize → entryAt (entriesOf s) k ≡ entryIn s (entrySize * k)
+entry-at s k h = entries-at (length s / entrySize) s k h

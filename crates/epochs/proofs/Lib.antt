@@ -4,3 +4,4 @@ pub mod Priority
 pub mod Walking
 pub mod Adding
 pub mod Encoded
+pub mod Example
