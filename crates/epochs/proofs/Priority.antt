@@ -28,12 +28,12 @@ keyTuple e = record { position = 0; node = e .node; sequence = e .sequence; offs
 abbrev pub keyRow : List Entry → Row
 keyRow p = map keyTuple p
 
-then-same : (o : Order) → then o Same ≡ o
+pub then-same : (o : Order) → then o Same ≡ o
 then-same Less = refl
 then-same Same = refl
 then-same More = refl
 
-keys-tuples : (e f : Entry) → compareKeys e f ≡ compareTuples (keyTuple e) (keyTuple f)
+pub keys-tuples : (e f : Entry) → compareKeys e f ≡ compareTuples (keyTuple e) (keyTuple f)
 unfolding compareTuples
 keys-tuples e f = ap (then (compareℕ (e .node) (f .node))) (sym (then-same (compareℕ (e .sequence) (f .sequence))))
 
@@ -68,15 +68,18 @@ module _ (t : List Entry) where
         let y : keyRow (path t j) ≡ keyRow (b .0) ++ (keyTuple (entryAt t j) ∷ []) = ap keyRow (b .1) ∙ map-append keyTuple (b .0) (entryAt t j ∷ []) in
         snoc-same (keyRow (a .0)) (keyRow (b .0)) (keyTuple (entryAt t i)) (keyTuple (entryAt t j)) (sym x ∙ e ∙ y) .1
 
-    rows-same : (i j : ℕ) → i < length t → j < length t → keyRow (path t i) ≡ keyRow (path t j) → i ≡ j
-    rows-same i j a b e =
-        let k = last-key i j e in
+    -- different epochs have different keys
+    pub keys-index : (i j : ℕ) → i < length t → j < length t → keyTuple (entryAt t i) ≡ keyTuple (entryAt t j) → i ≡ j
+    keys-index i j a b k =
         let n : entryAt t i .node ≡ entryAt t j .node = ap (λ (u : Tuple). u .node) k in
         let s : entryAt t i .sequence ≡ entryAt t j .sequence = ap (λ (u : Tuple). u .sequence) k in
         elim (ℕ-cases i j) [
           | inl l ↦ absurd (h .pair i j l b (sym n) (sym s))
           | inr r ↦ elim r [ inl q ↦ q | inr l ↦ absurd (h .pair j i l a n s) ]
         ]
+
+    rows-same : (i j : ℕ) → i < length t → j < length t → keyRow (path t i) ≡ keyRow (path t j) → i ≡ j
+    rows-same i j a b e = keys-index i j a b (last-key i j e)
 
     pub smaller-tri : (i j : ℕ) → i < length t → j < length t → Tri (Smaller t) i j (compareEpochs t i j)
     smaller-tri i j a b = subst (Tri (Smaller t) i j) (sym (paths-rows (path t i) (path t j))) (go (triN (keyRow (path t i)) (keyRow (path t j))))

@@ -1,0 +1,108 @@
+-- The comparison of two epochs by recursion, the epoch index falling at each call: with the same parent the keys decide
+-- (`siblings`); else the one with the greater parent index is compared by its parent, and is below it in the tree (`up-first`,
+-- `up-second`). Assumes nothing.
+use mathlib.Core.Path.{_≡_, refl, sym, ap, _∙_}
+use mathlib.Core.List.{List, [], _∷_, _++_, map, append-assoc}
+use Prim.Native.Nat.{ℕ, zero, suc, _+_, _<_, _≤_}
+use native.Mathlib.Omega.{arith}
+use lib.ListN.{length}
+use Rattle.names.specs.declared.Order.{Order}
+use Rattle.names.specs.declared.Order.the-variants.{Less, Same, More}
+use Rattle.names.specs.Ordering.{then}
+use Rattle.names.proofs.Laws.{tuple-same, same-tuple}
+use Rattle.epochs.specs.Tables.{Entry, entryAt}
+use Rattle.epochs.specs.Tree.{parentOf, route, path, compareKeys, comparePaths, compareEpochs}
+use Rattle.epochs.proofs.Facts.{Table}
+use Rattle.epochs.proofs.Routes.{Snoc, none, some, snoc, snoc-length, snoc-same, route-suc, route-ends, route-same, beginning, path-suc}
+use Rattle.epochs.proofs.Priority.{keyTuple, then-same, keys-tuples, keys-index}
+
+key-same : (e : Entry) → compareKeys e e ≡ Same
+key-same e = keys-tuples e e ∙ tuple-same (keyTuple e)
+
+last-differ : (p : List Entry) (e f : Entry) → comparePaths (p ++ (e ∷ [])) (p ++ (f ∷ [])) ≡ compareKeys e f
+last-differ [] e f = then-same (compareKeys e f)
+last-differ (x ∷ p) e f = ap (λ (o : Order). then o (comparePaths (p ++ (e ∷ [])) (p ++ (f ∷ [])))) (key-same x) ∙ last-differ p e f
+
+module _ (t : List Entry) (h : Table t) where
+  key-index : (i j : ℕ) → i < length t → j < length t → compareKeys (entryAt t i) (entryAt t j) ≡ Same → i ≡ j
+  key-index i j a b e = keys-index t h i j a b (same-tuple (keyTuple (entryAt t i)) (keyTuple (entryAt t j)) (sym (keys-tuples (entryAt t i) (entryAt t j)) ∙ e))
+
+  -- each index of the list is in the table
+  abbrev Inside : List ℕ → Type 0
+  Inside r = (l : List ℕ) (x : ℕ) (u : List ℕ) → r ≡ l ++ (x ∷ u) → x < length t
+
+  -- the first is not above the second in the tree
+  abbrev NotOver : List ℕ → List ℕ → Type 0
+  NotOver p q = (j : ℕ) (u : List ℕ) → q ≡ p ++ (j ∷ u) → ⊥
+
+  inner : {y : ℕ} {q : List ℕ} → Inside (y ∷ q) → Inside q
+  inner {y} f l x u e = f (y ∷ l) x u (ap (λ (r : List ℕ). y ∷ r) e)
+
+  abbrev entries : List ℕ → List Entry
+  entries r = map (entryAt t) r
+
+  longer : (p q : List ℕ) (i : ℕ) → Inside p → Inside q → NotOver p q → comparePaths (entries (p ++ (i ∷ []))) (entries q) ≡ then (comparePaths (entries p) (entries q)) More
+  longer [] [] i a b n = refl
+  longer [] (y ∷ q) i a b n = absurd (n y q refl)
+  longer (x ∷ p) [] i a b n = refl
+  longer (x ∷ p) (y ∷ q) i a b n = go (compareKeys (entryAt t x) (entryAt t y)) refl (λ e. longer p q i (inner a) (inner b) (λ k u d. n k u (λ z. sym e z ∷ d z)))
+    where
+      go : (o : Order) → compareKeys (entryAt t x) (entryAt t y) ≡ o → (x ≡ y → comparePaths (entries (p ++ (i ∷ []))) (entries q) ≡ then (comparePaths (entries p) (entries q)) More) → then o (comparePaths (entries (p ++ (i ∷ []))) (entries q)) ≡ then (then o (comparePaths (entries p) (entries q))) More
+      go Less e f = refl
+      go Same e f = f (key-index x y (a [] x p refl) (b [] y q refl) e)
+      go More e f = refl
+
+  longer-second : (p q : List ℕ) (j : ℕ) → Inside p → Inside q → NotOver q p → comparePaths (entries p) (entries (q ++ (j ∷ []))) ≡ then (comparePaths (entries p) (entries q)) Less
+  longer-second [] [] j a b n = refl
+  longer-second [] (y ∷ q) j a b n = refl
+  longer-second (x ∷ p) [] j a b n = absurd (n x p refl)
+  longer-second (x ∷ p) (y ∷ q) j a b n = go (compareKeys (entryAt t x) (entryAt t y)) refl (λ e. longer-second p q j (inner a) (inner b) (λ k u d. n k u (λ z. e z ∷ d z)))
+    where
+      go : (o : Order) → compareKeys (entryAt t x) (entryAt t y) ≡ o → (x ≡ y → comparePaths (entries p) (entries (q ++ (j ∷ []))) ≡ then (comparePaths (entries p) (entries q)) Less) → then o (comparePaths (entries p) (entries (q ++ (j ∷ [])))) ≡ then (then o (comparePaths (entries p) (entries q))) Less
+      go Less e f = refl
+      go Same e f = f (key-index x y (a [] x p refl) (b [] y q refl) e)
+      go More e f = refl
+
+  inside : (d : ℕ) → d < length t → Inside (route t d)
+  inside d k l x u e = let b : x ≤ d = beginning t h d l x u e .1 in omega arith
+
+  -- an epoch with a greater index than j's parent, j apart, is not above j
+  not-over : (p j : ℕ) → parentOf t j < p → NotOver (route t p) (route t j)
+  not-over p zero l x u e =
+      let b = route-ends t h p in
+      let c : length (route t p) ≡ suc (length (b .0) + 0) = ap length (b .1) ∙ snoc-length (b .0) p [] in
+      let d : 1 ≡ suc (length (route t p) + length u) = ap length e ∙ snoc-length (route t p) x u in
+      omega arith
+  not-over p (suc j) l x u e = go (snoc u) e
+    where
+      go : {u : List ℕ} → Snoc u → route t (suc j) ≡ route t p ++ (x ∷ u) → ⊥
+      go none e =
+          let k : parentOf t (suc j) ≡ p = route-same t h (parentOf t (suc j)) p (snoc-same (route t (parentOf t (suc j))) (route t p) (suc j) x (sym (route-suc t h j) ∙ e) .0) in
+          omega arith
+      go (some u z) e =
+          let b = route-ends t h p in
+          let k : route t (parentOf t (suc j)) ≡ route t p ++ (x ∷ u) = snoc-same (route t (parentOf t (suc j))) (route t p ++ (x ∷ u)) (suc j) z (sym (route-suc t h j) ∙ e ∙ sym (append-assoc (route t p) (x ∷ u) (z ∷ []))) .0 in
+          let d : p ≤ parentOf t (suc j) = beginning t h (parentOf t (suc j)) (b .0) p (x ∷ u) (k ∙ ap (λ (r : List ℕ). r ++ (x ∷ u)) (b .1) ∙ append-assoc (b .0) (p ∷ []) (x ∷ u)) .1 in
+          omega arith
+
+  -- ── the three cases ──
+
+  -- two epochs with one parent
+  pub siblings : (i j : ℕ) → parentOf t (suc i) ≡ parentOf t (suc j) → compareEpochs t (suc i) (suc j) ≡ compareKeys (entryAt t (suc i)) (entryAt t (suc j))
+  siblings i j e =
+      (λ z. comparePaths ((path-suc t h i ∙ ap (λ (p : ℕ). path t p ++ (entryAt t (suc i) ∷ [])) e) z) (path-suc t h j z))
+      ∙ last-differ (path t (parentOf t (suc j))) (entryAt t (suc i)) (entryAt t (suc j))
+
+  -- the first has the greater parent index
+  pub up-first : (i j : ℕ) → suc i < length t → j < length t → parentOf t j < parentOf t (suc i) → compareEpochs t (suc i) j ≡ then (compareEpochs t (parentOf t (suc i)) j) More
+  up-first i j a b l =
+      let k : parentOf t (suc i) ≤ i = h .parent i in
+      ap (λ (r : List ℕ). comparePaths (map (entryAt t) r) (path t j)) (route-suc t h i)
+      ∙ longer (route t (parentOf t (suc i))) (route t j) (suc i) (inside (parentOf t (suc i)) (omega arith)) (inside j b) (not-over (parentOf t (suc i)) j l)
+
+  -- the second has
+  pub up-second : (i j : ℕ) → i < length t → suc j < length t → parentOf t i < parentOf t (suc j) → compareEpochs t i (suc j) ≡ then (compareEpochs t i (parentOf t (suc j))) Less
+  up-second i j a b l =
+      let k : parentOf t (suc j) ≤ j = h .parent j in
+      ap (λ (r : List ℕ). comparePaths (path t i) (map (entryAt t) r)) (route-suc t h j)
+      ∙ longer-second (route t i) (route t (parentOf t (suc j))) (suc j) (inside i a) (inside (parentOf t (suc j)) (omega arith)) (not-over (parentOf t (suc j)) i l)
