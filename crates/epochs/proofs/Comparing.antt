@@ -1,6 +1,6 @@
--- The comparison of two epochs by recursion, the epoch index falling at each call: with the same parent the keys decide
--- (`siblings`); else the one with the greater parent index is compared by its parent, and is below it in the tree (`up-first`,
--- `up-second`). Assumes nothing.
+-- The comparison of two epochs by recursion, the epoch index falling at each call: epoch 0 is the smallest (`root-first`,
+-- `root-second`); with the same parent the keys decide (`siblings`); else the one with the greater parent index is compared by its
+-- parent, which is above it in the tree (`up-first`, `up-second`). Assumes nothing.
 use mathlib.Core.Path.{_≡_, refl, sym, ap, _∙_}
 use mathlib.Core.List.{List, [], _∷_, _++_, map, append-assoc}
 use Prim.Native.Nat.{ℕ, zero, suc, _+_, _<_, _≤_}
@@ -13,7 +13,7 @@ use Rattle.names.proofs.Laws.{tuple-same, same-tuple}
 use Rattle.epochs.specs.Tables.{Entry, entryAt}
 use Rattle.epochs.specs.Tree.{parentOf, route, path, compareKeys, comparePaths, compareEpochs}
 use Rattle.epochs.proofs.Facts.{Table}
-use Rattle.epochs.proofs.Routes.{Snoc, none, some, snoc, snoc-length, snoc-same, route-suc, route-ends, route-same, beginning, path-suc}
+use Rattle.epochs.proofs.Routes.{Snoc, none, some, snoc, snoc-length, snoc-same, route-suc, route-ends, route-begins, route-same, beginning, path-suc}
 use Rattle.epochs.proofs.Priority.{keyTuple, then-same, keys-tuples, keys-index}
 
 key-same : (e : Entry) → compareKeys e e ≡ Same
@@ -66,7 +66,7 @@ module _ (t : List Entry) (h : Table t) where
   inside : (d : ℕ) → d < length t → Inside (route t d)
   inside d k l x u e = let b : x ≤ d = beginning t h d l x u e .1 in omega arith
 
-  -- an epoch with a greater index than j's parent, j apart, is not above j
+  -- an epoch whose index is greater than that of j's parent is not above j
   not-over : (p j : ℕ) → parentOf t j < p → NotOver (route t p) (route t j)
   not-over p zero l x u e =
       let b = route-ends t h p in
@@ -85,7 +85,33 @@ module _ (t : List Entry) (h : Table t) where
           let d : p ≤ parentOf t (suc j) = beginning t h (parentOf t (suc j)) (b .0) p (x ∷ u) (k ∙ ap (λ (r : List ℕ). r ++ (x ∷ u)) (b .1) ∙ append-assoc (b .0) (p ∷ []) (x ∷ u)) .1 in
           omega arith
 
-  -- ── the three cases ──
+  -- ── the cases ──
+
+  -- the route of an epoch other than 0: 0, and at least one index more
+  more-than-root : (i : ℕ) → (l : List ℕ) × (route t (suc i) ≡ 0 ∷ (l ++ (suc i ∷ [])))
+  more-than-root i = let b = route-begins t h (parentOf t (suc i)) in (b .0, route-suc t h i ∙ ap (λ (r : List ℕ). r ++ (suc i ∷ [])) (b .1))
+
+  pub root-first : (j : ℕ) → compareEpochs t 0 (suc j) ≡ Less
+  root-first j =
+      let b = more-than-root j in
+      ap (λ (r : List ℕ). comparePaths (path t 0) (entries r)) (b .1)
+      ∙ ap (λ (o : Order). then o (comparePaths [] (entries (b .0 ++ (suc j ∷ []))))) (key-same (entryAt t 0))
+      ∙ go (b .0)
+    where
+      go : (l : List ℕ) → comparePaths [] (entries (l ++ (suc j ∷ []))) ≡ Less
+      go [] = refl
+      go (x ∷ l) = refl
+
+  pub root-second : (i : ℕ) → compareEpochs t (suc i) 0 ≡ More
+  root-second i =
+      let b = more-than-root i in
+      ap (λ (r : List ℕ). comparePaths (entries r) (path t 0)) (b .1)
+      ∙ ap (λ (o : Order). then o (comparePaths (entries (b .0 ++ (suc i ∷ []))) [])) (key-same (entryAt t 0))
+      ∙ go (b .0)
+    where
+      go : (l : List ℕ) → comparePaths (entries (l ++ (suc i ∷ []))) [] ≡ More
+      go [] = refl
+      go (x ∷ l) = refl
 
   -- two epochs with one parent
   pub siblings : (i j : ℕ) → parentOf t (suc i) ≡ parentOf t (suc j) → compareEpochs t (suc i) (suc j) ≡ compareKeys (entryAt t (suc i)) (entryAt t (suc j))

@@ -1,14 +1,14 @@
 -- Routes and paths. The route of an epoch other than 0 is its parent's and then its own index (`route-suc`, `route-ind`); it begins
 -- with 0 (`route-begins`), ends in its index (`route-ends`), which it determines (`route-same`), and is at most one longer than that
--- (`route-length`); each beginning of it is the route of an epoch with no greater index (`beginning`). The path likewise (`path-suc`,
+-- (`route-length`, `route-few`); each beginning of it is the route of an epoch with no greater index (`beginning`). The path likewise (`path-suc`,
 -- `path-ends`). Assumes nothing.
 use mathlib.Core.Path.{_≡_, refl, sym, ap, _∙_}
 use mathlib.Core.List.{List, [], _∷_, _++_, map, map-append, append-assoc, head-eq-of-cons-eq, tail-eq-of-cons-eq}
-use Prim.Native.Nat.{ℕ, zero, suc, _+_, _≤_}
+use Prim.Native.Nat.{ℕ, zero, suc, _+_, _<_, _≤_}
 use native.Mathlib.Nat.{le-refl}
 use native.Mathlib.Omega.{arith}
 use lib.ListN.{length, length-append}
-use Rattle.epochs.specs.Tables.{Entry, entryAt}
+use Rattle.epochs.specs.Tables.{Entry, maxEntries, entryAt}
 use Rattle.epochs.specs.Tree.{parentOf, routeWithin, route, path}
 use Rattle.epochs.proofs.Facts.{Table}
 
@@ -87,6 +87,10 @@ module _ (t : List Entry) (h : Table t) where
           let e : length (route t (suc i)) ≡ suc (length (route t (parentOf t (suc i))) + 0) = ap length (route-suc i) ∙ snoc-length (route t (parentOf t (suc i))) (suc i) [] in
           let q : parentOf t (suc i) ≤ i = h .parent i in
           omega arith
+
+  -- so of a table's epoch it has at most 32 indices
+  pub route-few : (i : ℕ) → i < length t → length (route t i) ≤ maxEntries
+  route-few i l = let a = route-length i in let b : length t ≤ 32 = h .few in omega arith
 
   -- a beginning of a route, up to x, is the route of x
   pub beginning : (d : ℕ) (l : List ℕ) (x : ℕ) (u : List ℕ) → route t d ≡ l ++ (x ∷ u) → (route t x ≡ l ++ (x ∷ [])) × (x ≤ d)

@@ -1,7 +1,7 @@
 -- The walk to the target. Each step is one edge, up to the parent or down to a child, and brings the other end one edge nearer; a step
 -- stays only there (`Edge`, `edge`). The number of edges is that of the way back (`edges-back`), 0 only from an epoch to itself
 -- (`edges-self`, `edges-none`), and at most 31 (`edges-few`). So following the next step reaches the target after exactly the number
--- of edges between the two (`walk-edges`, `walk-reaches`, `walk-not-before`), stays there and nowhere else (`stay-at-target`,
+-- of edges between the two (`walk-edges`, `walk-reaches`, `walk-31`, `walk-not-before`), stays there and nowhere else (`stay-at-target`,
 -- `stay-only`) and never leaves the table (`walk-in`). Assumes nothing.
 use mathlib.Core.Path.{_≡_, refl, sym, ap, subst, _∙_}
 use mathlib.Core.Logic.{inl, inr}
@@ -227,6 +227,10 @@ module _ (t : List Entry) (h : Table t) where
   -- "Following it reaches the target and then stays": from the number of edges on ..
   pub walk-reaches : (k c : ℕ) → edges t c (target t) ≤ k → walk t k c ≡ target t
   walk-reaches k c l = edges-none (walk t k c) (target t) (let a = walk-edges k c in omega arith)
+
+  -- .. and so from 31 on, wherever it began
+  pub walk-31 : (c : ℕ) → c < length t → walk t 31 c ≡ target t
+  walk-31 c l = walk-reaches 31 c (edges-few c (target t) l (target-in t h))
 
   -- .. and not before
   pub walk-not-before : (k c : ℕ) → k < edges t c (target t) → ¬ (walk t k c ≡ target t)
