@@ -1,6 +1,7 @@
 -- A table's bytes and the list of its entries: `table-back`, the bytes of the entries of a table are the table; `entries-back`, the
 -- entries of the bytes of some entries are these entries, and if they make a table the bytes are one (`written-table`). Entry k is
--- read from its place in the bytes (`entry-at`). Assumes nothing.
+-- read from its place in the bytes (`entry-at`). The bytes of a table with an entry added are the table's and then the entry's
+-- (`added-bytes`), and are a table where it may be added (`added-written`). Assumes nothing.
 use mathlib.Core.Path.{_≡_, refl, sym, ap, _∙_}
 use mathlib.Core.List.{List, [], _∷_, _++_, map, flatten}
 use mathlib.Core.Bool.{true, _&&_}
@@ -13,7 +14,9 @@ use lib.Seq.{getD-take, getD-drop, take-at, drop-at, ext-getD}
 use Rattle.names.proofs.Laws.{and-0, and-1}
 use Rattle.slots.specs.Bytes.{Bytes, Octets, at16}
 use Rattle.pages.proofs.RoundTrip.{octets-take, octets-drop, flat, flat-none}
-use Rattle.epochs.specs.Tables.{Entry, entrySize, zeroEntry, entryAt, entryIn, entryOf, entryParts, entriesOf, entryBytes, entryPieces, isTable, keepsTable}
+use Rattle.epochs.specs.Tables.{Entry, entrySize, zeroEntry, entryAt, entryIn, entryOf, entryParts, entriesOf, entryBytes, entryPieces, isTable, keepsTable, added, mayAdd}
+use Rattle.epochs.proofs.Facts.{table}
+use Rattle.epochs.proofs.Adding.{added-table}
 
 entry-≡ : {e f : Entry} → e .node ≡ f .node → e .sequence ≡ f .sequence → e .parent ≡ f .parent → e ≡ f
 entry-≡ a b c = λ i. record { node = a i; sequence = b i; parent = c i }
@@ -120,3 +123,19 @@ entries-at (suc n) s (suc k) h = entries-at n (drop entrySize s) k (omega arith)
 
 pub entry-at : (s : Bytes) (k : ℕ) → k < length s / entrySize → entryAt (entriesOf s) k ≡ entryIn s (entrySize * k)
 entry-at s k h = entries-at (length s / entrySize) s k h
+
+-- ── adding ──
+
+flat-added : (t : List Entry) (e : Entry) → flatten (entryPieces (added t e)) ≡ flatten (entryPieces t) ++ entryBytes e
+flat-added [] e = flat (entryBytes e) [] ∙ ap (λ (s : Bytes). entryBytes e ++ s) flat-none ∙ ap (λ (s : Bytes). s ++ entryBytes e) (sym flat-none)
+flat-added (x ∷ t) e =
+    flat (entryBytes x) (entryPieces (added t e))
+    ∙ ap (λ (s : Bytes). entryBytes x ++ s) (flat-added t e)
+    ∙ ap (λ (s : Bytes). s ++ entryBytes e) (sym (flat (entryBytes x) (entryPieces t)))
+
+module _ (s : Bytes) (h : keepsTable s ≡ true) (e : Entry) where
+  pub added-bytes : Octets s → flatten (entryPieces (added (entriesOf s) e)) ≡ s ++ entryBytes e
+  added-bytes k = flat-added (entriesOf s) e ∙ ap (λ (b : Bytes). b ++ entryBytes e) (table-back s k h)
+
+  pub added-written : mayAdd (entriesOf s) e ≡ true → keepsTable (flatten (entryPieces (added (entriesOf s) e))) ≡ true
+  added-written m = written-table (added (entriesOf s) e) (added-table (entriesOf s) (table (entriesOf s) (entries-table s h)) e m)
