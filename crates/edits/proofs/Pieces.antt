@@ -11,14 +11,9 @@ use Rattle.slots.specs.Bytes.{Bytes, Octets}
 use Rattle.slots.specs.Slots.{slotSize, slotOf, keepsSlot, slotBytes}
 use Rattle.slots.proofs.RoundTrip.{kept, bytes-back}
 use Rattle.pages.specs.Pages.{parts, slotsOf, pieces, keepsLayout}
-use Rattle.pages.proofs.RoundTrip.{flat, flat-none, flat-all, pieces-are, laid}
+use Rattle.pages.proofs.RoundTrip.{flat-append, flat, flat-none, flat-all, pieces-are, laid}
 
 -- ── rows of rows ──
-
-pub flat-append : (a b : List Bytes) → flatten (a ++ b) ≡ flatten a ++ flatten b
-flat-append [] b = ap (λ (l : Bytes). l ++ flatten b) (sym flat-none)
-flat-append (x ∷ a) b =
-    flat x (a ++ b) ∙ ap (λ (l : Bytes). x ++ l) (flat-append a b) ∙ sym (append-assoc x (flatten a) (flatten b)) ∙ ap (λ (l : Bytes). l ++ flatten b) (sym (flat x a))
 
 map-take : {A B : Type 0} (f : A → B) (k : ℕ) (l : List A) → map f (take k l) ≡ take k (map f l)
 map-take f zero l = refl

@@ -3,7 +3,7 @@
 -- read from its place in the bytes (`entry-at`). The bytes of a table with an entry added are the table's and then the entry's
 -- (`added-bytes`), and are a table where it may be added (`added-written`). Assumes nothing.
 use mathlib.Core.Path.{_≡_, refl, sym, ap, _∙_}
-use mathlib.Core.List.{List, [], _∷_, _++_, map, flatten}
+use mathlib.Core.List.{List, [], _∷_, _++_, map, map-append, flatten}
 use mathlib.Core.Bool.{true, _&&_}
 use Prim.Native.Nat.{ℕ, zero, suc, _+_, _*_, _/_, _%_, _<_}
 use native.Mathlib.Omega.{arith}
@@ -13,7 +13,7 @@ use lib.ListN.{length, take, drop, getD, length-append, length-take, length-drop
 use lib.Seq.{getD-take, getD-drop, take-at, drop-at, ext-getD}
 use Rattle.names.proofs.Laws.{and-0, and-1}
 use Rattle.slots.specs.Bytes.{Bytes, Octets, at16}
-use Rattle.pages.proofs.RoundTrip.{octets-take, octets-drop, flat, flat-none}
+use Rattle.pages.proofs.RoundTrip.{octets-take, octets-drop, flat, flat-none, flat-append}
 use Rattle.epochs.specs.Tables.{Entry, entrySize, zeroEntry, entryAt, entryIn, entryOf, entryParts, entriesOf, entryBytes, entryPieces, isTable, keepsTable, added, mayAdd}
 use Rattle.epochs.proofs.Facts.{table}
 use Rattle.epochs.proofs.Adding.{added-table}
@@ -127,11 +127,10 @@ entry-at s k h = entries-at (length s / entrySize) s k h
 -- ── adding ──
 
 flat-added : (t : List Entry) (e : Entry) → flatten (entryPieces (added t e)) ≡ flatten (entryPieces t) ++ entryBytes e
-flat-added [] e = flat (entryBytes e) [] ∙ ap (λ (s : Bytes). entryBytes e ++ s) flat-none ∙ ap (λ (s : Bytes). s ++ entryBytes e) (sym flat-none)
-flat-added (x ∷ t) e =
-    flat (entryBytes x) (entryPieces (added t e))
-    ∙ ap (λ (s : Bytes). entryBytes x ++ s) (flat-added t e)
-    ∙ ap (λ (s : Bytes). s ++ entryBytes e) (sym (flat (entryBytes x) (entryPieces t)))
+flat-added t e =
+    ap flatten (map-append entryBytes t (e ∷ []))
+    ∙ flat-append (entryPieces t) (entryBytes e ∷ [])
+    ∙ ap (λ (s : Bytes). flatten (entryPieces t) ++ s) (flat (entryBytes e) [] ∙ ap (λ (s : Bytes). entryBytes e ++ s) flat-none)
 
 module _ (s : Bytes) (h : keepsTable s ≡ true) (e : Entry) where
   pub added-bytes : Octets s → flatten (entryPieces (added (entriesOf s) e)) ≡ s ++ entryBytes e

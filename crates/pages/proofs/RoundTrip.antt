@@ -1,8 +1,8 @@
 -- A page's bytes and the list of its slots: `page-back`, the bytes of the slots of a page are the page; `slots-back`, the slots
 -- of the bytes of at most 256 slots are these slots, and the bytes keep the layout (`encoded-layout`); with rising names they are a page
 -- (`written-page`). Assumes nothing.
-use mathlib.Core.Path.{_≡_, refl, _∙_, ap}
-use mathlib.Core.List.{List, [], _∷_, _++_, map, flatten}
+use mathlib.Core.Path.{_≡_, refl, _∙_, sym, ap}
+use mathlib.Core.List.{List, [], _∷_, _++_, map, flatten, append-assoc}
 use mathlib.Core.Bool.{true, _&&_}
 use Prim.Native.Nat.{ℕ, zero, suc, _+_, _*_, _/_, _%_, _≤_}
 use native.Mathlib.Decide.{decLt}
@@ -38,6 +38,11 @@ flat x l = refl
 pub flat-none : flatten {A = ℕ} [] ≡ []
 unfolding flatten
 flat-none = refl
+
+pub flat-append : (a b : List Bytes) → flatten (a ++ b) ≡ flatten a ++ flatten b
+flat-append [] b = ap (λ (l : Bytes). l ++ flatten b) (sym flat-none)
+flat-append (x ∷ a) b =
+    flat x (a ++ b) ∙ ap (λ (l : Bytes). x ++ l) (flat-append a b) ∙ sym (append-assoc x (flatten a) (flatten b)) ∙ ap (λ (l : Bytes). l ++ flatten b) (sym (flat x a))
 
 empty : (s : Bytes) → length s ≡ 0 → [] ≡ s
 empty [] e = refl
