@@ -9,12 +9,12 @@ use lib.ListN.{length}
 use Rattle.names.specs.declared.Order.{Order}
 use Rattle.names.specs.declared.Order.the-variants.{Less, Same, More}
 use Rattle.names.specs.Ordering.{then}
-use Rattle.names.proofs.Laws.{tuple-same, same-tuple}
+use Rattle.names.proofs.Laws.{then-same, tuple-same, same-tuple}
 use Rattle.epochs.specs.Tables.{Entry, entryAt}
 use Rattle.epochs.specs.Tree.{parentOf, route, path, compareKeys, comparePaths, compareEpochs}
 use Rattle.epochs.proofs.Facts.{Table}
 use Rattle.epochs.proofs.Routes.{Snoc, none, some, snoc, snoc-length, snoc-same, route-suc, route-ends, route-begins, route-same, beginning, path-suc}
-use Rattle.epochs.proofs.Priority.{keyTuple, then-same, keys-tuples, keys-index}
+use Rattle.epochs.proofs.Priority.{keyTuple, keys-tuples, keys-index}
 
 key-same : (e : Entry) → compareKeys e e ≡ Same
 key-same e = keys-tuples e e ∙ tuple-same (keyTuple e)

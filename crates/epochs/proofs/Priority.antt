@@ -12,9 +12,8 @@ use lib.IntN.{pos}
 use lib.ListN.{length}
 use Rattle.names.specs.declared.Tuple.{Tuple}
 use Rattle.names.specs.declared.Order.{Order}
-use Rattle.names.specs.declared.Order.the-variants.{Less, Same, More}
 use Rattle.names.specs.Ordering.{Row, compareℕ, then, compareTuples, compareRows, isLess, _<ⁿ_}
-use Rattle.names.proofs.Laws.{ℕ-cases, Tri, below, level, above, triN, <ⁿ-trans, <ⁿ-irrefl, row-less, less-row}
+use Rattle.names.proofs.Laws.{then-same, ℕ-cases, Tri, below, level, above, triN, <ⁿ-trans, <ⁿ-irrefl, row-less, less-row}
 use Rattle.epochs.specs.Tables.{Entry, entryAt}
 use Rattle.epochs.specs.Tree.{path, compareKeys, comparePaths, compareEpochs, Smaller, greatestTo, target}
 use Rattle.epochs.proofs.Facts.{Table}
@@ -27,11 +26,6 @@ keyTuple e = record { position = 0; node = e .node; sequence = e .sequence; offs
 
 abbrev pub keyRow : List Entry → Row
 keyRow p = map keyTuple p
-
-pub then-same : (o : Order) → then o Same ≡ o
-then-same Less = refl
-then-same Same = refl
-then-same More = refl
 
 pub keys-tuples : (e f : Entry) → compareKeys e f ≡ compareTuples (keyTuple e) (keyTuple f)
 unfolding compareTuples

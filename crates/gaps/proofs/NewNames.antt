@@ -1,12 +1,12 @@
 -- A new name stands strictly between its neighbours (`new-between`) and is a name (`new-valid`); of a page: it is in no slot, and the
 -- place to insert it is the gap (`new-in-gap`). Assumes nothing.
 use mathlib.Core.Path.{_≡_, refl, _∙_, sym, ap}
-use mathlib.Core.List.{List, [], _∷_, _++_, map, append-nil}
+use mathlib.Core.List.{List, [], _∷_, _++_, append-nil}
 use mathlib.Core.Option.{Option, none, some}
 use mathlib.Core.Bool.{Bool, true, false, cond}
 use Prim.Native.Nat.{ℕ, zero, suc, _+_, _/_, _<_, _≤_}
 use native.Mathlib.Decide.{decLt}
-use native.Mathlib.Nat.{not-suc-le-zero, le-of-suc-le-suc}
+use native.Mathlib.Nat.{not-suc-le-zero}
 use native.Mathlib.Omega.{arith}
 use borrow.Author.Tests.{leb-true, eqb-true}
 use lib.Dec.{leb, eqb}
@@ -19,19 +19,17 @@ use Rattle.names.specs.declared.Order.{Order}
 use Rattle.names.specs.declared.Order.the-variants.{Less, Same, More}
 use Rattle.names.specs.Ordering.{Row, compareTuples, isSame, _<ᶻ_, up, across, _<ᵗ_, position, _<ⁿ_, ends, differ, Rising}
 use Rattle.names.specs.Names.{fits, isName, lowered}
-use Rattle.names.proofs.Laws.{Before, prefix, apart, before, Tri, level, triT, tuple-same, <ⁿ-irrefl, ++-prefix, ++-left, lowered-below, and-0, and-1, rising-Rising}
-use Rattle.names.proofs.Validity.{Allowed, Ordinary, Middle, plain, marker-m, marker-M, Ends, final, onward, Valid, valid, name-valid, valid-name, valid-ends, ends-middle, lowered-ordinary}
+use Rattle.names.proofs.Laws.{Before, prefix, apart, before, Tri, level, triT, tuple-same, <ⁿ-irrefl, ++-prefix, ++-left, lowered-below, rising-Rising}
+use Rattle.names.proofs.Validity.{Allowed, Ordinary, Middle, plain, marker-m, marker-M, Ends, final, onward, Valid, valid, valid-name, valid-ends, ends-middle, lowered-ordinary}
 use Rattle.slots.specs.Bytes.{Bytes, every}
-use Rattle.slots.specs.Slots.{slotOf, keepsSlot}
-use Rattle.slots.proofs.RoundTrip.{kept}
 use Rattle.pages.specs.declared.Answer.the-variants.{Accepted}
 use Rattle.pages.specs.declared.Place.the-variants.{Here, Gap}
 use Rattle.pages.specs.declared.Refusal.the-variants.{BadLayout, NotRising, NoAuthor, NoGap, TooDeep}
 use Rattle.pages.specs.Answers.{ask}
-use Rattle.pages.specs.Pages.{partsOf, slotsOf, nameIn, namesOf, keepsLayout, rises}
+use Rattle.pages.specs.Pages.{slotsOf, nameIn, namesOf, keepsLayout, rises}
 use Rattle.pages.specs.Places.{has, placeOf, below as countBelow}
 use Rattle.pages.proofs.Halving.{index-below, to-left, to-right, missed}
-use Rattle.pages.proofs.RoundTrip.{laid}
+use Rattle.pages.proofs.RoundTrip.{page-names}
 use Rattle.gaps.specs.NewNames.{firstBefore, firstAfter, rest, own, beforeTuple, closeBy, newName, nameBefore, nameAfter, refuseName, answerName, newNameIn}
 
 -- ── between ──
@@ -244,12 +242,6 @@ module _ (page : Bytes) (gap : ℕ) (author : Author) where
               fit false q e = absurd (let z : _≡_ {A = ℕ} 0 1 = cc in omega arith)
               fit true q e = (c, record { layout = p₁; order = p₂; node = leb-true 1 (author .node) p₃; inside = leb-true gap (length (slotsOf page)) p₄; given = p; short = q; named = simp (p₁, p₂, p₃, p₄, p, q) })
 
--- the names of a page that keeps the layout, by their index, and none beyond it
-page-valid : (l : List Bytes) → every keepsSlot l ≡ true → (i : ℕ) → i < length (map nameIn (map slotOf l)) → Valid (getD (map nameIn (map slotOf l)) i [])
-page-valid [] e i h = absurd (not-suc-le-zero h)
-page-valid (s ∷ l) e zero h = name-valid _ (kept s (and-0 (keepsSlot s) (every keepsSlot l) e) .named)
-page-valid (s ∷ l) e (suc i) h = page-valid l (and-1 (keepsSlot s) (every keepsSlot l) e) i (le-of-suc-le-suc h)
-
 or-missing : (l : List Row) → ((i : ℕ) → i < length l → Valid (getD l i [])) → (i : ℕ) → OrMissing (getD l i [])
 or-missing l f i = elim (decLt i (length l)) [
   | yes h ↦ present (f i h)
@@ -314,7 +306,7 @@ new-in-gap page gap author hn hs e =
         l = namesOf page
 
         f : (i : ℕ) → i < length l → Valid (getD l i [])
-        f = page-valid (partsOf page) (laid page (a .layout) .good)
+        f = page-names page (a .layout)
 
         long : length l ≡ length (slotsOf page)
         long = length-map (slotsOf page) nameIn

@@ -18,6 +18,13 @@ use Rattle.names.specs.declared.Order.the-variants.{Less, Same, More}
 use Rattle.names.specs.Ordering.{Row, compareℕ, compareℤ, then, compareTuples, compareRows, isLess, rising, _<ᶻ_, up, across, down, _<ᵗ_, position, node, sequence, offset, _<ⁿ_, ends, differ, same, _≤ⁿ_, less, equal, Rising, none, one, more}
 use Rattle.names.specs.Names.{lowered}
 
+-- ── "this decides, else that" ──
+
+pub then-same : (o : Order) → then o Same ≡ o
+then-same Less = refl
+then-same Same = refl
+then-same More = refl
+
 -- ── numbers ──
 
 module _ (a b : ℕ) where

@@ -71,7 +71,7 @@ one-part s e =
 pub length-names : (s : Bytes) (n : ℕ) → length (map nameIn (map slotOf (parts n s))) ≡ n
 length-names s n = length-map (map slotOf (parts n s)) nameIn ∙ length-map (parts n s) slotOf ∙ length-parts n s
 
-rising-cons : (a b : Row) (l : List Row) → rising (a ∷ b ∷ l) ≡ isLess (compareRows a b) && rising (b ∷ l)
+pub rising-cons : (a b : Row) (l : List Row) → rising (a ∷ b ∷ l) ≡ isLess (compareRows a b) && rising (b ∷ l)
 unfolding rising
 rising-cons a b l = refl
 
@@ -92,11 +92,7 @@ rising-at l k h e =
 
 pub rising-end : (l : List Row) (k : ℕ) → length l ≤ k + 1 → true ≡ rising (drop k l)
 rising-end [] k h = sym (ap rising (drop-of-length-le {A = Row} [] {i = k} (omega arith)) ∙ rising-none)
-rising-end (a ∷ l) zero h = let q : length l ≤ 0 = omega arith in sym (ap (λ (r : List Row). rising (a ∷ r)) (none l q) ∙ rising-one a)
-  where
-    none : (l : List Row) → length l ≤ 0 → l ≡ []
-    none [] h = refl
-    none (x ∷ l) h = absurd (not-suc-le-zero h)
+rising-end (a ∷ l) zero h = sym (ap (λ (r : List Row). rising (a ∷ r)) (drop-of-length-le l {i = 0} (omega arith)) ∙ rising-one a)
 rising-end (a ∷ l) (suc k) h = rising-end l k (omega arith)
 
 -- the same of the slots that the code lends

@@ -1,22 +1,24 @@
 -- A page's bytes and the list of its slots: `page-back`, the bytes of the slots of a page are the page; `slots-back`, the slots
 -- of the bytes of at most 256 slots are these slots, and the bytes keep the layout (`encoded-layout`); with rising names they are a page
--- (`written-page`). Assumes nothing.
+-- (`written-page`); the names of a page are names (`page-names`). Assumes nothing.
 use mathlib.Core.Path.{_≡_, refl, _∙_, sym, ap}
 use mathlib.Core.List.{List, [], _∷_, _++_, map, flatten, append-assoc}
 use mathlib.Core.Bool.{true, _&&_}
-use Prim.Native.Nat.{ℕ, zero, suc, _+_, _*_, _/_, _%_, _≤_}
+use Prim.Native.Nat.{ℕ, zero, suc, _+_, _*_, _/_, _%_, _<_, _≤_}
 use native.Mathlib.Decide.{decLt}
+use native.Mathlib.Nat.{not-suc-le-zero, le-of-suc-le-suc}
 use native.Mathlib.Omega.{arith}
 use borrow.Author.Tests.{eq-eqb, le-leb, eqb-true, leb-true}
 use lib.Dec.{eqb, leb}
-use lib.ListN.{length, take, drop, length-append, length-drop, length-take, take-append-drop, List·getD-eq-default}
+use lib.ListN.{length, take, drop, length-append, length-drop, length-take, take-append-drop, drop-of-length-le, getD, List·getD-eq-default}
 use lib.Seq.{getD-take, getD-drop, take-at, drop-at}
 use Rattle.names.specs.Ordering.{Rising}
+use Rattle.names.proofs.Validity.{Valid, name-valid}
 use Rattle.names.proofs.Laws.{and-0, and-1, Rising-rising}
 use Rattle.slots.specs.Bytes.{Bytes, Octets, every}
 use Rattle.slots.specs.Slots.{Slot, slotSize, slotOf, keepsSlot, slotBytes, isSlot}
 use Rattle.slots.proofs.RoundTrip.{kept, bytes-back, decoded-slot, slot-back, encoded-length, encoded-keeps}
-use Rattle.pages.specs.Pages.{maxSlots, parts, partsOf, slotsOf, nameIn, pieces, keepsLayout, rises}
+use Rattle.pages.specs.Pages.{maxSlots, parts, partsOf, slotsOf, nameIn, namesOf, pieces, keepsLayout, rises}
 
 -- ── parts of bytes ──
 
@@ -44,13 +46,9 @@ flat-append [] b = ap (λ (l : Bytes). l ++ flatten b) (sym flat-none)
 flat-append (x ∷ a) b =
     flat x (a ++ b) ∙ ap (λ (l : Bytes). x ++ l) (flat-append a b) ∙ sym (append-assoc x (flatten a) (flatten b)) ∙ ap (λ (l : Bytes). l ++ flatten b) (sym (flat x a))
 
-empty : (s : Bytes) → length s ≡ 0 → [] ≡ s
-empty [] e = refl
-empty (x ∷ s) e = absurd (let z : suc (length s) ≡ 0 = e in omega arith)
-
 -- the parts, one after the other, are the whole
 pub flat-all : (n : ℕ) (s : Bytes) → length s ≡ slotSize * n → flatten (parts n s) ≡ s
-flat-all zero s e = flat-none ∙ empty s (e ∙ omega arith)
+flat-all zero s e = flat-none ∙ sym (drop-of-length-le s {i = 0} (omega arith))
 flat-all (suc n) s e =
     flat (take slotSize s) (parts n (drop slotSize s))
     ∙ ap (λ (l : Bytes). take slotSize s ++ l) (flat-all n (drop slotSize s) (simp length-drop (omega arith)))
@@ -89,6 +87,15 @@ laid s e =
     let e₀ = and-0 (a && b) (every keepsSlot (partsOf s)) e in
     let z = eqb-true (length s % slotSize) 0 (and-0 a b e₀) in
     record { whole = omega arith; few = leb-true (length s / slotSize) maxSlots (and-1 a b e₀); good = and-1 (a && b) (every keepsSlot (partsOf s)) e }
+
+-- its names are names
+parts-valid : (l : List Bytes) → every keepsSlot l ≡ true → (i : ℕ) → i < length (map nameIn (map slotOf l)) → Valid (getD (map nameIn (map slotOf l)) i [])
+parts-valid [] e i h = absurd (not-suc-le-zero h)
+parts-valid (x ∷ l) e zero h = name-valid _ (kept x (and-0 (keepsSlot x) (every keepsSlot l) e) .named)
+parts-valid (x ∷ l) e (suc i) h = parts-valid l (and-1 (keepsSlot x) (every keepsSlot l) e) i (le-of-suc-le-suc h)
+
+pub page-names : (s : Bytes) → keepsLayout s ≡ true → (i : ℕ) → i < length (namesOf s) → Valid (getD (namesOf s) i [])
+page-names s e = parts-valid (partsOf s) (laid s e .good)
 
 module _ (s : Bytes) (k : Octets s) (e : keepsLayout s ≡ true) where
   pub pieces-are : pieces (slotsOf s) ≡ partsOf s

@@ -1,11 +1,10 @@
 // Pages and logs as bytes: the answers, the checks of a page, a log and a slot, and finding a name.
 // Document 01, "Pages, logs, epochs" and "What comes back"; the definitions are in specs/.
 ghost use mathlib.Core.Path.{_≡_};
-ghost use mathlib.Core.Bool.{Bool, true};
+ghost use mathlib.Core.Bool.{true};
 ghost use Prim.Native.Nat.{_≤_, _+_};
 ghost use mathlib.Core.List.{[]};
 ghost use lib.ListN.{length, getD};
-ghost use Rattle.names.specs.Ordering.{compareRows};
 ghost use Rattle.names.specs.Names.{rowOf};
 ghost use Rattle.slots.specs.Bytes.{every, put};
 ghost use Rattle.slots.specs.Slots.{slotSize, nameOf, keepsSlot};

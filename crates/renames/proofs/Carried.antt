@@ -12,14 +12,13 @@ use lib.ListN.{length, getD, length-map}
 use Rattle.names.specs.Ordering.{Row, Rising}
 use Rattle.names.specs.Names.{isName, fits}
 use Rattle.names.proofs.Laws.{and-0, and-1}
-use Rattle.names.proofs.Validity.{Valid, name-valid, valid-name}
-use Rattle.renaming.proofs.Lists.{All, nil, cons, all-map}
+use Rattle.names.proofs.Validity.{Valid, valid-name}
+use Rattle.renaming.proofs.Lists.{All, nil, cons}
 use Rattle.slots.specs.Bytes.{Bytes, Octets, every}
-use Rattle.slots.specs.Slots.{Slot, slotSize, nameOf, slotOf, keepsSlot, isSlot}
-use Rattle.slots.proofs.RoundTrip.{kept}
+use Rattle.slots.specs.Slots.{Slot, slotSize, keepsSlot, isSlot}
 use Rattle.pages.specs.Pages.{maxSlots, parts, partsOf, slotsOf, nameIn, namesOf, pieces, keepsLayout, rises}
 use Rattle.pages.proofs.Parts.{length-parts, length-slots, lent, lent-part}
-use Rattle.pages.proofs.RoundTrip.{laid, page-slots, parts-are, slots-back, written-page}
+use Rattle.pages.proofs.RoundTrip.{laid, page-names, page-slots, parts-are, slots-back, written-page}
 use Rattle.renames.specs.Renames.{carry, carried, allFit}
 
 -- ── the names of a page ──
@@ -42,11 +41,13 @@ lent-keeps s k e h =
     let l : k < length (parts n s) = rw length-parts h in
     ap keepsSlot (lent-part s n k (slotSize * k) refl h) ∙ each [] k (all-every keepsSlot (λ b i. i) (parts n s) (laid s e .good)) l
 
+-- and what holds of every k-th holds of each
+all-index : {A : Type 0} {P : A → Type 0} (d : A) (l : List A) → ((k : ℕ) → k < length l → P (getD l k d)) → All P l
+all-index d [] f = nil
+all-index d (x ∷ l) f = cons (f 0 (omega arith)) (all-index d l (λ k h. f (suc k) (omega arith)))
+
 pub page-valid : (s : Bytes) → keepsLayout s ≡ true → All Valid (namesOf s)
-page-valid s e =
-    let v : All (λ (b : Bytes). Valid (nameOf b)) (partsOf s) = all-every keepsSlot (λ b k. name-valid (nameOf b) (kept b k .named)) (partsOf s) (laid s e .good) in
-    let w : All (λ (x : Slot). Valid (x .name)) (slotsOf s) = all-map slotOf (λ b i. i) v in
-    all-map nameIn (λ x i. i) w
+page-valid s e = all-index [] (namesOf s) (page-names s e)
 
 pub names-fit : (l : List Slot) → every isSlot l ≡ true → every fits (map nameIn l) ≡ true
 names-fit [] e = refl

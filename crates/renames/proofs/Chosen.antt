@@ -9,9 +9,9 @@ use Rattle.names.specs.declared.Name.{Name}
 use Rattle.names.specs.declared.Tuple.{Tuple}
 use Rattle.names.specs.declared.Order.{Order}
 use Rattle.names.specs.declared.Order.the-variants.{Less, Same, More}
-use Rattle.names.specs.Ordering.{Row, compareTuples, compareRows, then}
+use Rattle.names.specs.Ordering.{Row, compareTuples, compareRows}
 use Rattle.names.specs.Names.{rowOf, m}
-use Rattle.names.proofs.Laws.{row-less, row-more, row-same, less-row, same-row, more-row}
+use Rattle.names.proofs.Laws.{then-same, row-less, row-more, row-same, less-row, same-row, more-row}
 use Rattle.renaming.specs.Renaming.{choose}
 
 -- r is what comparing x with y gave, and o which of the three it is
@@ -33,11 +33,6 @@ pub turned-more : (x y : Row) → compareRows x y ≡ More → Less ≡ compareR
 turned-more x y e = sym (row-less (more-row x y e))
 
 -- ── the first tuple ──
-
-then-same : (o : Order) → then o Same ≡ o
-then-same Less = refl
-then-same Same = refl
-then-same More = refl
 
 pub first-none : (a : Row) (t : Tuple) → length a < 1 → Less ≡ compareRows (take 1 a) (t ∷ [])
 unfolding compareRows

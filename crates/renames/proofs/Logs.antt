@@ -17,9 +17,8 @@ use Rattle.slots.specs.Slots.{headSize, slotSize, depthOf, nameOf, slotOf, keep
 use Rattle.slots.proofs.RoundTrip.{kept}
 use Rattle.pages.specs.Pages.{maxSlots, parts, slotsOf, nameIn, namesOf, keepsLayout, rises, lineIsZero, isLog}
 use Rattle.pages.proofs.Parts.{length-slots, length-names}
-use Rattle.pages.proofs.RoundTrip.{laid}
+use Rattle.pages.proofs.RoundTrip.{laid, page-names}
 use Rattle.renaming.specs.Renaming.{firstPosition}
-use Rattle.renames.proofs.Carried.{each, page-valid}
 
 pub record Logged (log : Bytes) : Type 0 where
   pub layout : keepsLayout log ≡ true
@@ -69,4 +68,4 @@ first-at log e = go (length log / slotSize) (logged log e .some) (laid log (logg
 -- ── its names ──
 
 pub log-named : (log : Bytes) (k : ℕ) → isLog log ≡ true → k < length (namesOf log) → isName (getD (namesOf log) k []) ≡ true
-log-named log k e h = valid-name (each [] k (page-valid log (logged log e .layout)) h)
+log-named log k e h = valid-name (page-names log (logged log e .layout) k h)

@@ -8,7 +8,7 @@ use native.Mathlib.Decide.{decLt}
 use native.Mathlib.Nat.{not-suc-le-zero}
 use native.Mathlib.Omega.{arith}
 use lib.IntN.{ℤ, pos, negsuc, natAbs}
-use lib.ListN.{length, take, drop, getD, length-drop}
+use lib.ListN.{length, take, drop, getD, length-drop, drop-of-length-le}
 use lib.Signed.{nonNeg}
 use Rattle.names.specs.declared.Author.{Author}
 use Rattle.names.specs.declared.Tuple.{Tuple}
@@ -79,10 +79,6 @@ pub begins-long : (c : Row) (u : Tuple) → isSame (compareRows (take 1 c) (u �
 unfolding compareRows
 begins-long [] u e = yes-no e refl
 begins-long (h ∷ t) u e = omega arith
-
-none : {A : Type 0} (l : List A) → length l ≡ 0 → l ≡ []
-none [] e = refl
-none (x ∷ l) e = absurd (let q : suc (length l) ≡ 0 = e in omega arith)
 
 some : (l : Row) → 1 ≤ length l → [] <ⁿ l
 some [] h = absurd (omega arith)
@@ -219,7 +215,7 @@ module _ (author : Author) (c : Row) where
   back-logged [] k i e h = absurd (not-suc-le-zero i)
   back-logged (r ∷ rest) k i e h =
       let p = firstPosition (r ∷ rest) in
-      let q : c ≡ N p author k = e ∙ ap (λ (t : Row). lead p author (pos k) ∷ t) (none (drop 1 c) (omega (arith, length-drop 1 c))) in
+      let q : c ≡ N p author k = e ∙ ap (λ (t : Row). lead p author (pos k) ∷ t) (drop-of-length-le c {i = 1} (omega arith)) in
       sym (ap (backOf p author (r ∷ rest)) q ∙ bullet-logged p author r rest k i)
 
   -- "c between N(k) and N(k+1), so c = N(k)·t"

@@ -1,7 +1,7 @@
 -- A loop along a page and its log: what a turn says of the tests of results, and how far the log has been walked. Assumes nothing.
 use mathlib.Core.Path.{_≡_, refl, _∙_, sym, ap}
 use mathlib.Core.List.{List, [], _∷_, map}
-use mathlib.Core.Bool.{Bool, true, false, _&&_, and-true}
+use mathlib.Core.Bool.{Bool, true, _&&_, and-assoc, and-true}
 use Prim.Native.Nat.{ℕ, _+_, _*_, _/_, _<_, _≤_}
 use native.Mathlib.Numerals.{add-one}
 use native.Mathlib.Omega.{arith}
@@ -17,7 +17,7 @@ use Rattle.slots.specs.Slots.{slotSize, nameOf}
 use Rattle.slots.proofs.Zeros.{every-at, every-end}
 use Rattle.pages.specs.Pages.{namesOf, rises}
 use Rattle.pages.specs.Places.{below}
-use Rattle.pages.proofs.Parts.{lent, lent-name, length-names}
+use Rattle.pages.proofs.Parts.{lent, lent-name, length-names, rising-cons}
 use Rattle.pages.proofs.Halving.{index-below}
 use Rattle.renames.proofs.Places.{place-grows}
 
@@ -49,14 +49,6 @@ results-end page i f t h = every-end t (map f (namesOf page)) i (omega (arith, l
 
 -- ── results that rise ──
 
-rising-cons : (a b : Row) (l : List Row) → rising (a ∷ b ∷ l) ≡ isLess (compareRows a b) && rising (b ∷ l)
-unfolding rising
-rising-cons a b l = refl
-
-and-join : (a b d : Bool) → (a && b) && d ≡ a && (b && d)
-and-join true b d = refl
-and-join false b d = refl
-
 -- the result before result i is x, and b says whether x is below it and it went so before
 pub rising-turn : (page : Bytes) (i : ℕ) → i < length page / slotSize → (f : Row → Row) (went b : Bool) (x y : Row) → y ≡ f (getD (namesOf page) i []) → b ≡ (went && isLess (compareRows x y)) → b && rising (y ∷ drop (i + 1) (map f (namesOf page))) ≡ went && rising (x ∷ drop i (map f (namesOf page)))
 rising-turn page i h f went b x y e q =
@@ -65,7 +57,7 @@ rising-turn page i h f went b x y e q =
     let r : getD all i (f []) ≡ y = List·getD-map f (namesOf page) i [] ∙ sym e in
     let d : drop i all ≡ y ∷ drop (i + 1) all = drop-cons all i (f []) l ∙ (λ k. r k ∷ drop (sym (add-one i) k) all) in
     ap (λ (t : Bool). t && rising (y ∷ drop (i + 1) all)) q
-    ∙ and-join went (isLess (compareRows x y)) (rising (y ∷ drop (i + 1) all))
+    ∙ and-assoc went (isLess (compareRows x y)) (rising (y ∷ drop (i + 1) all))
     ∙ ap (λ (t : Bool). went && t) (sym (ap (λ (m : List Row). rising (x ∷ m)) d ∙ rising-cons x y (drop (i + 1) all)))
 
 pub rising-ends : (page : Bytes) (i : ℕ) → length page / slotSize ≤ i → (f : Row → Row) (went : Bool) (x : Row) → went ≡ went && rising (x ∷ drop i (map f (namesOf page)))

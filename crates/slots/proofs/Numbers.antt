@@ -3,7 +3,6 @@ use mathlib.Core.Path.{_≡_, _∙_}
 use Prim.Native.Nat.{ℕ, _+_, _*_, _-_, _/_, _%_, _<_, _≤_}
 use native.Mathlib.Omega.{arith}
 use borrow.Author.Tests.{lt-ltb, le-ltb}
-use lib.ListN.{getD}
 use lib.IntN.{pos, negsuc}
 use Rattle.slots.specs.Bytes.{Bytes, Octets, at16, at32, signed}
 
