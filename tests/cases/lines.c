@@ -10,6 +10,7 @@
 #include <stdlib.h>
 #include <string.h>
 
+#include "../reference/chance.h"
 #include "../reference/renames.h"
 
 enum {
@@ -27,22 +28,7 @@ static void fail(const char *what)
     exit(EXIT_FAILURE);
 }
 
-/* ---- chance: splitmix64 */
-
-static uint64_t random_state;
-
-static uint64_t random_word(void)
-{
-    uint64_t z = random_state += 0x9e3779b97f4a7c15u;
-    z = (z ^ (z >> 30)) * 0xbf58476d1ce4e5b9u;
-    z = (z ^ (z >> 27)) * 0x94d049bb133111ebu;
-    return z ^ (z >> 31);
-}
-
-static size_t random_below(size_t limit)
-{
-    return (size_t)(random_word() % limit);
-}
+/* ---- chance */
 
 /* Once in so many times. */
 static bool once_in(size_t times)
@@ -795,7 +781,7 @@ int main(int argc, char **argv)
         fputs("usage: lines DIRECTORY SCRIPTS SEED KIND..\n", stderr);
         return EXIT_FAILURE;
     }
-    random_state = strtoull(argv[3], NULL, 10);
+    start_random(strtoull(argv[3], NULL, 10));
     for (int i = 4; i < argc; i++)
         ask_for(argv[i]);
     for (int number = 1; number <= atoi(argv[2]); number++)

@@ -256,23 +256,24 @@ static void remove_line(const char *kind)
     say_written(kind, remove_slot(page.bytes, page.length, slot.bytes, slot.length, written.bytes, room));
 }
 
-/* What these two write is not shown. */
-static void add_line(const char *kind)
+/* An edit of a page of many slots; what it writes is not shown. */
+static void edit_many(const char *kind, Outcome (*edit)(const uint8_t *, size_t, const uint8_t *, size_t, uint8_t *, size_t))
 {
     Bytes page = many_slots((size_t)read_number());
     Bytes slot = one_slot(7, counted_name((uint32_t)read_number()));
     size_t room = room_of(read_number(), PAGE_BYTES);
-    Outcome outcome = insert_slot(page.bytes, page.length, slot.bytes, slot.length, written.bytes, room);
+    Outcome outcome = edit(page.bytes, page.length, slot.bytes, slot.length, written.bytes, room);
     say(kind, outcome.answer, outcome.count);
+}
+
+static void add_line(const char *kind)
+{
+    edit_many(kind, insert_slot);
 }
 
 static void drop_line(const char *kind)
 {
-    Bytes page = many_slots((size_t)read_number());
-    Bytes slot = one_slot(7, counted_name((uint32_t)read_number()));
-    size_t room = room_of(read_number(), PAGE_BYTES);
-    Outcome outcome = remove_slot(page.bytes, page.length, slot.bytes, slot.length, written.bytes, room);
-    say(kind, outcome.answer, outcome.count);
+    edit_many(kind, remove_slot);
 }
 
 static void new_line(const char *kind)

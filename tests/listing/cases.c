@@ -10,6 +10,7 @@
 #include <string.h>
 
 #include "../reference/book.h"
+#include "../reference/chance.h"
 
 enum { LONGEST_INPUT = 1000000, LABEL_BYTES = 64 };
 
@@ -390,22 +391,6 @@ static void faults_in_long_pages(void)
 
 /* ---- the random inputs */
 
-/* splitmix64, from a fixed start */
-static uint64_t random_state = 20260101;
-
-static uint64_t random_word(void)
-{
-    uint64_t z = random_state += 0x9e3779b97f4a7c15u;
-    z = (z ^ (z >> 30)) * 0xbf58476d1ce4e5b9u;
-    z = (z ^ (z >> 27)) * 0x94d049bb133111ebu;
-    return z ^ (z >> 31);
-}
-
-static size_t random_below(size_t limit)
-{
-    return (size_t)(random_word() % limit);
-}
-
 /* Few values, so that names touch and nest, among them those at the edges. */
 static const uint16_t positions[] = {9, 1, 65534, 256};
 static const uint16_t nodes[] = {2, 1, 65535, 255};
@@ -562,6 +547,7 @@ int main(int argc, char **argv)
     longest_listing();
     neighbours();
     faults_in_long_pages();
+    start_random(20260101);
     random_pages();
     return EXIT_SUCCESS;
 }

@@ -1,12 +1,17 @@
 #include "edits.h"
 
-/* The first refusals of insert and remove: "1 (page), 1 (slot), 2" */
-static int check_edit(const uint8_t *page, size_t page_length, const uint8_t *slot, size_t slot_length)
+/* The first refusals of insert and remove: "1 (page), 1 (slot), 2"; where there is none, page and slot are read. */
+static int read_edit(const uint8_t *page, size_t page_length, const uint8_t *slot, size_t slot_length, Page *old,
+                     Slot *given)
 {
     int answer = check_page(page, page_length);
     if (answer == PAGE_LAYOUT || check_slot(slot, slot_length) == PAGE_LAYOUT)
         return PAGE_LAYOUT;
-    return answer;
+    if (answer != ACCEPTED)
+        return answer;
+    read_page(page, page_length, old);
+    read_slot(slot, given);
+    return ACCEPTED;
 }
 
 static bool has_name(const Page *page, const Name *name)
@@ -21,13 +26,11 @@ static bool has_name(const Page *page, const Name *name)
 Outcome insert_slot(const uint8_t *page, size_t page_length, const uint8_t *slot, size_t slot_length, uint8_t *out,
                     size_t room)
 {
-    int answer = check_edit(page, page_length, slot, slot_length);
-    if (answer != ACCEPTED)
-        return refused(answer);
     Page old;
     Slot given;
-    read_page(page, page_length, &old);
-    read_slot(slot, &given);
+    int answer = read_edit(page, page_length, slot, slot_length, &old, &given);
+    if (answer != ACCEPTED)
+        return refused(answer);
     if (has_name(&old, &given.name))
         return refused(NAME_PRESENT);
     if (old.count == SLOT_LIMIT)
@@ -46,13 +49,11 @@ Outcome insert_slot(const uint8_t *page, size_t page_length, const uint8_t *slot
 Outcome remove_slot(const uint8_t *page, size_t page_length, const uint8_t *slot, size_t slot_length, uint8_t *out,
                     size_t room)
 {
-    int answer = check_edit(page, page_length, slot, slot_length);
-    if (answer != ACCEPTED)
-        return refused(answer);
     Page old;
     Slot given;
-    read_page(page, page_length, &old);
-    read_slot(slot, &given);
+    int answer = read_edit(page, page_length, slot, slot_length, &old, &given);
+    if (answer != ACCEPTED)
+        return refused(answer);
     if (!has_name(&old, &given.name))
         return refused(NAME_ABSENT);
     Page result = {0, {{0, {0, {{0, 0, 0, 0}}}}}};

@@ -154,15 +154,22 @@ bool is_fresh(const Page *page, const Renaming *renaming)
     return true;
 }
 
-/* The first refusals of both: "1, 2, 3, 4" */
-static int check_renaming(const uint8_t *page, size_t page_length, const uint8_t *log, size_t log_length, uint16_t node)
+/* The first refusals of both: "1, 2, 3, 4"; where there is none, page and log are read. */
+static int read_renaming(const uint8_t *page, size_t page_length, const uint8_t *log, size_t log_length, uint16_t node,
+                         uint32_t sequence, Page *slots, Renaming *renaming)
 {
     int answer = check_page(page, page_length);
     if (answer == ACCEPTED)
         answer = check_log(log, log_length);
     if (answer == ACCEPTED && node == 0)
         answer = NO_AUTHOR;
-    return answer;
+    if (answer != ACCEPTED)
+        return answer;
+    read_page(page, page_length, slots);
+    read_page(log, log_length, &renaming->log);
+    renaming->node = node;
+    renaming->sequence = sequence;
+    return ACCEPTED;
 }
 
 /* "6: some result needs more than eight tuples" */
@@ -187,15 +194,11 @@ static bool all_rise(const Page *page)
 Outcome rename_page(const uint8_t *page, size_t page_length, const uint8_t *log, size_t log_length, uint16_t node,
                     uint32_t sequence, uint8_t *out, size_t room)
 {
-    int answer = check_renaming(page, page_length, log, log_length, node);
-    if (answer != ACCEPTED)
-        return refused(answer);
     Page slots;
     Renaming renaming;
-    read_page(page, page_length, &slots);
-    read_page(log, log_length, &renaming.log);
-    renaming.node = node;
-    renaming.sequence = sequence;
+    int answer = read_renaming(page, page_length, log, log_length, node, sequence, &slots, &renaming);
+    if (answer != ACCEPTED)
+        return refused(answer);
     if (!is_fresh(&slots, &renaming))
         return refused(NOT_FRESH);
     for (size_t i = 0; i < slots.count; i++)
@@ -209,15 +212,11 @@ Outcome rename_page(const uint8_t *page, size_t page_length, const uint8_t *log,
 Outcome take_page_back(const uint8_t *page, size_t page_length, const uint8_t *log, size_t log_length, uint16_t node,
                        uint32_t sequence, uint8_t *out, size_t room)
 {
-    int answer = check_renaming(page, page_length, log, log_length, node);
-    if (answer != ACCEPTED)
-        return refused(answer);
     Page slots;
     Renaming renaming;
-    read_page(page, page_length, &slots);
-    read_page(log, log_length, &renaming.log);
-    renaming.node = node;
-    renaming.sequence = sequence;
+    int answer = read_renaming(page, page_length, log, log_length, node, sequence, &slots, &renaming);
+    if (answer != ACCEPTED)
+        return refused(answer);
     for (size_t i = 0; i < slots.count; i++)
         slots.slots[i].name = take_name_back(&renaming, &slots.slots[i].name).name;
     if (!all_fit(&slots))
