@@ -1,5 +1,5 @@
--- The comparison of two epochs by recursion, the epoch index falling at each call: epoch 0 is the smallest (`root-first`,
--- `root-second`); with the same parent the keys decide (`siblings`); else the one with the greater parent index is compared by its
+-- The comparison of two epochs by recursion, the epoch index falling at each call: an epoch is the same as itself (`same-epoch`); epoch 0
+-- is the smallest (`root-first`, `root-second`); with the same parent the keys decide (`siblings`); else the one with the greater parent index is compared by its
 -- parent, which is above it in the tree (`up-first`, `up-second`). Assumes nothing.
 use mathlib.Core.Path.{_≡_, refl, sym, ap, _∙_}
 use mathlib.Core.List.{List, [], _∷_, _++_, map, append-assoc}
@@ -22,6 +22,13 @@ key-same e = keys-tuples e e ∙ tuple-same (keyTuple e)
 last-differ : (p : List Entry) (e f : Entry) → comparePaths (p ++ (e ∷ [])) (p ++ (f ∷ [])) ≡ compareKeys e f
 last-differ [] e f = then-same (compareKeys e f)
 last-differ (x ∷ p) e f = ap (λ (o : Order). then o (comparePaths (p ++ (e ∷ [])) (p ++ (f ∷ [])))) (key-same x) ∙ last-differ p e f
+
+paths-same : (p : List Entry) → comparePaths p p ≡ Same
+paths-same [] = refl
+paths-same (e ∷ p) = ap (λ (o : Order). then o (comparePaths p p)) (key-same e) ∙ paths-same p
+
+pub same-epoch : (t : List Entry) (i : ℕ) → compareEpochs t i i ≡ Same
+same-epoch t i = paths-same (path t i)
 
 module _ (t : List Entry) (h : Table t) where
   key-index : (i j : ℕ) → i < length t → j < length t → compareKeys (entryAt t i) (entryAt t j) ≡ Same → i ≡ j
@@ -91,8 +98,9 @@ module _ (t : List Entry) (h : Table t) where
   more-than-root : (i : ℕ) → (l : List ℕ) × (route t (suc i) ≡ 0 ∷ (l ++ (suc i ∷ [])))
   more-than-root i = let b = route-begins t h (parentOf t (suc i)) in (b .0, route-suc t h i ∙ ap (λ (r : List ℕ). r ++ (suc i ∷ [])) (b .1))
 
-  pub root-first : (j : ℕ) → compareEpochs t 0 (suc j) ≡ Less
-  root-first j =
+  pub root-first : (i j : ℕ) → i < 1 → (i ≡ j → ⊥) → compareEpochs t i j ≡ Less
+  root-first zero zero l f = absurd (f refl)
+  root-first zero (suc j) l f =
       let b = more-than-root j in
       ap (λ (r : List ℕ). comparePaths (path t 0) (entries r)) (b .1)
       ∙ ap (λ (o : Order). then o (comparePaths [] (entries (b .0 ++ (suc j ∷ []))))) (key-same (entryAt t 0))
@@ -101,9 +109,12 @@ module _ (t : List Entry) (h : Table t) where
       go : (l : List ℕ) → comparePaths [] (entries (l ++ (suc j ∷ []))) ≡ Less
       go [] = refl
       go (x ∷ l) = refl
+  root-first (suc i) j l f = absurd (omega arith)
 
-  pub root-second : (i : ℕ) → compareEpochs t (suc i) 0 ≡ More
-  root-second i =
+  pub root-second : (i j : ℕ) → 1 ≤ i → j < 1 → compareEpochs t i j ≡ More
+  root-second zero j k l = absurd (omega arith)
+  root-second (suc i) (suc j) k l = absurd (omega arith)
+  root-second (suc i) zero k l =
       let b = more-than-root i in
       ap (λ (r : List ℕ). comparePaths (entries r) (path t 0)) (b .1)
       ∙ ap (λ (o : Order). then o (comparePaths (entries (b .0 ++ (suc i ∷ []))) [])) (key-same (entryAt t 0))
@@ -114,21 +125,25 @@ module _ (t : List Entry) (h : Table t) where
       go (x ∷ l) = refl
 
   -- two epochs with one parent
-  pub siblings : (i j : ℕ) → parentOf t (suc i) ≡ parentOf t (suc j) → compareEpochs t (suc i) (suc j) ≡ compareKeys (entryAt t (suc i)) (entryAt t (suc j))
-  siblings i j e =
+  pub siblings : (i j : ℕ) → 1 ≤ i → 1 ≤ j → parentOf t i ≡ parentOf t j → compareEpochs t i j ≡ compareKeys (entryAt t i) (entryAt t j)
+  siblings zero j k l e = absurd (omega arith)
+  siblings (suc i) zero k l e = absurd (omega arith)
+  siblings (suc i) (suc j) k l e =
       (λ z. comparePaths ((path-suc t h i ∙ ap (λ (p : ℕ). path t p ++ (entryAt t (suc i) ∷ [])) e) z) (path-suc t h j z))
       ∙ last-differ (path t (parentOf t (suc j))) (entryAt t (suc i)) (entryAt t (suc j))
 
   -- the first has the greater parent index
-  pub up-first : (i j : ℕ) → suc i < length t → j < length t → parentOf t j < parentOf t (suc i) → compareEpochs t (suc i) j ≡ then (compareEpochs t (parentOf t (suc i)) j) More
-  up-first i j a b l =
+  pub up-first : (i j : ℕ) → i < length t → j < length t → 1 ≤ i → parentOf t j < parentOf t i → compareEpochs t i j ≡ then (compareEpochs t (parentOf t i) j) More
+  up-first zero j a b n l = absurd (omega arith)
+  up-first (suc i) j a b n l =
       let k : parentOf t (suc i) ≤ i = h .parent i in
       ap (λ (r : List ℕ). comparePaths (map (entryAt t) r) (path t j)) (route-suc t h i)
       ∙ longer (route t (parentOf t (suc i))) (route t j) (suc i) (inside (parentOf t (suc i)) (omega arith)) (inside j b) (not-over (parentOf t (suc i)) j l)
 
   -- the second has
-  pub up-second : (i j : ℕ) → i < length t → suc j < length t → parentOf t i < parentOf t (suc j) → compareEpochs t i (suc j) ≡ then (compareEpochs t i (parentOf t (suc j))) Less
-  up-second i j a b l =
+  pub up-second : (i j : ℕ) → i < length t → j < length t → 1 ≤ j → parentOf t i < parentOf t j → compareEpochs t i j ≡ then (compareEpochs t i (parentOf t j)) Less
+  up-second i zero a b n l = absurd (omega arith)
+  up-second i (suc j) a b n l =
       let k : parentOf t (suc j) ≤ j = h .parent j in
       ap (λ (r : List ℕ). comparePaths (path t i) (map (entryAt t) r)) (route-suc t h j)
       ∙ longer-second (route t i) (route t (parentOf t (suc j))) (suc j) (inside i a) (inside (parentOf t (suc j)) (omega arith)) (not-over (parentOf t (suc j)) i l)

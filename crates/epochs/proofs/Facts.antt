@@ -1,5 +1,5 @@
 -- What the check of a table says (`Table`): a checked table has these facts (`table`), and a table with them is accepted
--- (`is-table`). Assumes nothing.
+-- (`is-table`). A parent has a smaller index (`parent-below`). Assumes nothing.
 use mathlib.Core.Path.{_≡_, refl, ap}
 use mathlib.Core.List.{List, [], _∷_}
 use mathlib.Core.Bool.{Bool, true, false, not, _&&_, _||_}
@@ -23,6 +23,11 @@ pub record Table (t : List Entry) : Type 0 where
   -- past the end too, where an entry is all zero
   pub parent : (i : ℕ) → parentOf t (suc i) ≤ i
   pub pair : (i j : ℕ) → i < j → j < length t → entryAt t j .node ≡ entryAt t i .node → entryAt t j .sequence ≡ entryAt t i .sequence → ⊥
+
+-- "each with a smaller index"
+pub parent-below : (t : List Entry) → Table t → (i : ℕ) → 1 ≤ i → parentOf t i < i
+parent-below t h zero l = absurd (omega arith)
+parent-below t h (suc i) l = let p : parentOf t (suc i) ≤ i = h .parent i in omega arith
 
 or-0 : (a b : Bool) → a || b ≡ false → a ≡ false
 or-0 true b e = e

@@ -3,6 +3,10 @@ pub mod Routes
 pub mod Priority
 pub mod Comparing
 pub mod Walking
+pub mod Stepping
 pub mod Adding
 pub mod Encoded
+pub mod Turns
+pub mod Added
+pub mod Settled
 pub mod Example

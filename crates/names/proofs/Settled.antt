@@ -2,6 +2,8 @@
 -- caller learns from the contract, of any arguments a, result r and parameters at exit s. Assumes nothing.
 use mathlib.Core.Path.{_≡_, _∙_, sym}
 use Rattle.names.specs.Names.{rowOf}
+use Rattle.names.proofs.compare_numbers.Reads as compare-numbers
+use Rattle.names.proofs.first_of.Reads as first-of
 use Rattle.names.proofs.compare_tuples.Reads as compare-tuples
 use Rattle.names.proofs.tuples_in.Reads as tuples-in
 use Rattle.names.proofs.compare.Reads as compare
@@ -20,6 +22,12 @@ use Rattle.names.proofs.join_by.Reads as join-by
 
 pub one : {A : Type 0} {x r r' : A} → r ≡ x → r' ≡ x → r ≡ r'
 one p q = p ∙ sym q
+
+pub compare-numbers-settled : (κs : _) (a : _) (r : _) (s : _) (r' : _) (s' : _) → compare-numbers.Learnt κs a r s → compare-numbers.Learnt κs a r' s' → r ≡ r'
+compare-numbers-settled κs a r s r' s' p q = one p q
+
+pub first-of-settled : (κs : _) (a : _) (r : _) (s : _) (r' : _) (s' : _) → first-of.Learnt κs a r s → first-of.Learnt κs a r' s' → r ≡ r'
+first-of-settled κs a r s r' s' p q = one p q
 
 pub compare-tuples-settled : (κs : _) (a : _) (r : _) (s : _) (r' : _) (s' : _) → compare-tuples.Learnt κs a r s → compare-tuples.Learnt κs a r' s' → r ≡ r'
 compare-tuples-settled κs a r s r' s' p q = one p q

@@ -62,7 +62,7 @@ pub enum Order {
     More,
 }
 
-fn compare_numbers(a: u32, b: u32) -> Order
+pub fn compare_numbers(a: u32, b: u32) -> Order
     ensures { λ r. ⌜ r ≡ compareℕ a b ⌝ }
 {
     if a < b {
@@ -88,7 +88,7 @@ fn compare_offsets(a: i32, b: i32) -> Order
 }
 
 // The first comparison where it decides, else the second.
-fn first_of(a: Order, b: Order) -> Order
+pub fn first_of(a: Order, b: Order) -> Order
     ensures { λ r. ⌜ r ≡ then a b ⌝ }
 {
     match a {
