@@ -5,22 +5,28 @@
 use mathlib.Core.Path.{_≡_, refl, sym, ap, _∙_}
 use mathlib.Core.Logic.{_⊎_, inl, inr}
 use mathlib.Core.List.{List, [], _∷_, _++_, map, map-append}
-use mathlib.Core.Bool.{true, false, cond, not, _&&_}
+use mathlib.Core.Bool.{true, false, cond, _&&_}
 use Prim.Native.Nat.{ℕ, zero, suc, _+_, _-_, _<_, _≤_}
 use native.Mathlib.Omega.{arith}
-use borrow.Author.Tests.{ltb-true, leb-true, not-true, eq-eqb}
-use lib.Dec.{leb, ltb}
+use borrow.Author.Tests.{eq-eqb}
 use lib.ListN.{length, length-append, List·getD-append, List·getD-eq-default}
 use lib.Seq.{getD-append-seam}
 use Rattle.names.specs.declared.Order.{Order}
 use Rattle.names.specs.declared.Order.the-variants.{Less}
 use Rattle.names.specs.Ordering.{isLess}
-use Rattle.names.proofs.Laws.{ℕ-cases, and-0, and-1, yes-no}
-use Rattle.epochs.specs.Tables.{Entry, maxEntries, zeroEntry, entryAt, listed, isTable, added, mayAdd}
+use Rattle.names.proofs.Laws.{ℕ-cases, yes-no}
+use Rattle.epochs.specs.Tables.{Entry, maxEntries, zeroEntry, entryAt, listed, isTable, added}
 use Rattle.epochs.specs.Tree.{parentOf, routeWithin, route, path, comparePaths, compareEpochs, greatestTo, greater, target}
 use Rattle.epochs.proofs.Facts.{Table, is-table, not-listed}
 use Rattle.epochs.proofs.Routes.{route-suc, path-suc}
 use Rattle.epochs.proofs.Priority.{target-in, greatest-in, greatest-to}
+
+-- what is asked of an entry to add to a table
+pub record May (t : List Entry) (e : Entry) : Type 0 where
+  pub in-table : e .parent < length t
+  pub has-node : 1 ≤ e .node
+  pub unlisted : listed e t ≡ false
+  pub has-room : length t < maxEntries
 
 module _ (t : List Entry) (h : Table t) (e : Entry) where
   -- ── the epochs of the table ──
@@ -64,27 +70,7 @@ module _ (t : List Entry) (h : Table t) (e : Entry) where
 
   -- ── the new epoch ──
 
-  module _ (m : mayAdd t e ≡ true) where
-    test-3 : ltb (e .parent) (length t) && leb 1 (e .node) && not (listed e t) ≡ true
-    unfolding mayAdd
-    test-3 = and-0 (ltb (e .parent) (length t) && leb 1 (e .node) && not (listed e t)) (ltb (length t) maxEntries) m
-
-    test-2 : ltb (e .parent) (length t) && leb 1 (e .node) ≡ true
-    test-2 = and-0 (ltb (e .parent) (length t) && leb 1 (e .node)) (not (listed e t)) test-3
-
-    in-table : e .parent < length t
-    in-table = ltb-true (e .parent) (length t) (and-0 (ltb (e .parent) (length t)) (leb 1 (e .node)) test-2)
-
-    has-node : 1 ≤ e .node
-    has-node = leb-true 1 (e .node) (and-1 (ltb (e .parent) (length t)) (leb 1 (e .node)) test-2)
-
-    unlisted : listed e t ≡ false
-    unlisted = not-true (listed e t) (and-1 (ltb (e .parent) (length t) && leb 1 (e .node)) (not (listed e t)) test-3)
-
-    has-room : length t < maxEntries
-    unfolding mayAdd
-    has-room = ltb-true (length t) maxEntries (and-1 (ltb (e .parent) (length t) && leb 1 (e .node) && not (listed e t)) (ltb (length t) maxEntries) m)
-
+  module _ (m : May t e) where
     -- entry i of the new table, whose index is told to be that of the new entry
     new-at : (i : ℕ) → i ≡ length t → entryAt (added t e) i ≡ e
     new-at i q = ap (entryAt (added t e)) q ∙ new-entry
@@ -93,7 +79,7 @@ module _ (t : List Entry) (h : Table t) (e : Entry) where
     node-at i l = elim (ℕ-cases (suc i) (length t)) [
       | inl k ↦ rw (added-entry (suc i) k) (h .node i k)
       | inr r ↦ elim r [
-        | inl k ↦ rw (new-at (suc i) k) has-node
+        | inl k ↦ rw (new-at (suc i) k) (m .has-node)
         | inr k ↦ absurd (let q = added-length in omega arith)
       ]
     ]
@@ -102,13 +88,13 @@ module _ (t : List Entry) (h : Table t) (e : Entry) where
     parent-at i = elim (ℕ-cases (suc i) (length t)) [
       | inl k ↦ let q = added-parent (suc i) k in let p : parentOf t (suc i) ≤ i = h .parent i in omega arith
       | inr r ↦ elim r [
-        | inl k ↦ let q : parentOf (added t e) (suc i) ≡ e .parent = ap (λ (x : Entry). x .parent) (new-at (suc i) k) in let p : e .parent < length t = in-table in omega arith
+        | inl k ↦ let q : parentOf (added t e) (suc i) ≡ e .parent = ap (λ (x : Entry). x .parent) (new-at (suc i) k) in let p : e .parent < length t = m .in-table in omega arith
         | inr k ↦ let w = added-length in let q : parentOf (added t e) (suc i) ≡ 0 = ap (λ (x : Entry). x .parent) (List·getD-eq-default (added t e) zeroEntry (omega arith)) in omega arith
       ]
     ]
 
     new-pair : (i : ℕ) → i < length t → e .node ≡ entryAt t i .node → e .sequence ≡ entryAt t i .sequence → ⊥
-    new-pair i l a b = yes-no (λ z. eq-eqb (e .node) (entryAt t i .node) a z && eq-eqb (e .sequence) (entryAt t i .sequence) b z) (not-listed e t i unlisted l)
+    new-pair i l a b = yes-no (λ z. eq-eqb (e .node) (entryAt t i .node) a z && eq-eqb (e .sequence) (entryAt t i .sequence) b z) (not-listed e t i (m .unlisted) l)
 
     pair-at : (i j : ℕ) → i < j → j < length (added t e) → entryAt (added t e) j .node ≡ entryAt (added t e) i .node → entryAt (added t e) j .sequence ≡ entryAt (added t e) i .sequence → ⊥
     pair-at i j l k = elim (ℕ-cases j (length t)) [
@@ -122,7 +108,7 @@ module _ (t : List Entry) (h : Table t) (e : Entry) where
     pub table-added : Table (added t e)
     table-added = record {
       some = let q = added-length in omega arith;
-      few = let q = added-length in let p : length t < 32 = has-room in omega arith;
+      few = let q = added-length in let p : length t < 32 = m .has-room in omega arith;
       first = added-entry 0 (h .some) ∙ h .first;
       node = node-at;
       parent = parent-at;
@@ -140,7 +126,7 @@ module _ (t : List Entry) (h : Table t) (e : Entry) where
     route-at zero q = absurd (let k : 0 < length t = h .some in omega arith)
     route-at (suc i) q =
         route-suc (added t e) table-added i
-        ∙ ap (λ (r : List ℕ). r ++ (suc i ∷ [])) (ap (route (added t e)) (new-parent (suc i) q) ∙ added-route (e .parent) in-table)
+        ∙ ap (λ (r : List ℕ). r ++ (suc i ∷ [])) (ap (route (added t e)) (new-parent (suc i) q) ∙ added-route (e .parent) (m .in-table))
 
     -- the parent's route, and the new index
     pub new-route : route (added t e) (length t) ≡ route t (e .parent) ++ (length t ∷ [])
@@ -150,7 +136,7 @@ module _ (t : List Entry) (h : Table t) (e : Entry) where
     path-at zero q = absurd (let k : 0 < length t = h .some in omega arith)
     path-at (suc i) q =
         path-suc (added t e) table-added i
-        ∙ (λ z. (ap (path (added t e)) (new-parent (suc i) q) ∙ added-path (e .parent) in-table) z ++ (new-at (suc i) q z ∷ []))
+        ∙ (λ z. (ap (path (added t e)) (new-parent (suc i) q) ∙ added-path (e .parent) (m .in-table)) z ++ (new-at (suc i) q z ∷ []))
 
     -- the parent's path, and the new entry
     pub new-path : path (added t e) (length t) ≡ path t (e .parent) ++ (e ∷ [])

@@ -14,9 +14,9 @@ use lib.Seq.{getD-take, getD-drop, take-at, drop-at, ext-getD}
 use Rattle.names.proofs.Laws.{and-0, and-1}
 use Rattle.slots.specs.Bytes.{Bytes, Octets, at16}
 use Rattle.pages.proofs.RoundTrip.{octets-take, octets-drop, flat, flat-none, flat-append}
-use Rattle.epochs.specs.Tables.{Entry, entrySize, zeroEntry, entryAt, entryIn, entryOf, entryParts, entriesOf, entryBytes, entryPieces, isTable, keepsTable, added, mayAdd}
+use Rattle.epochs.specs.Tables.{Entry, entrySize, zeroEntry, entryAt, entryIn, entryOf, entryParts, entriesOf, entryBytes, entryPieces, isTable, keepsTable, added}
 use Rattle.epochs.proofs.Facts.{table}
-use Rattle.epochs.proofs.Adding.{added-table}
+use Rattle.epochs.proofs.Adding.{May, added-table}
 
 entry-≡ : {e f : Entry} → e .node ≡ f .node → e .sequence ≡ f .sequence → e .parent ≡ f .parent → e ≡ f
 entry-≡ a b c = λ i. record { node = a i; sequence = b i; parent = c i }
@@ -136,5 +136,5 @@ module _ (s : Bytes) (h : keepsTable s ≡ true) (e : Entry) where
   pub added-bytes : Octets s → flatten (entryPieces (added (entriesOf s) e)) ≡ s ++ entryBytes e
   added-bytes k = flat-added (entriesOf s) e ∙ ap (λ (b : Bytes). b ++ entryBytes e) (table-back s k h)
 
-  pub added-written : mayAdd (entriesOf s) e ≡ true → keepsTable (flatten (entryPieces (added (entriesOf s) e))) ≡ true
+  pub added-written : May (entriesOf s) e → keepsTable (flatten (entryPieces (added (entriesOf s) e))) ≡ true
   added-written m = written-table (added (entriesOf s) e) (added-table (entriesOf s) (table (entriesOf s) (entries-table s h)) e m)

@@ -93,8 +93,3 @@ keepsTable s = eqb (length s % entrySize) 0 && isTable (entriesOf s)
 -- "Adding an epoch appends one entry in a second table." (01, "Epoch tree")
 abbrev pub added : List Entry → Entry → List Entry
 added t e = t ++ (e ∷ [])
-
--- what is asked of an entry to add to a table: the parent index is in the table, "author node" is not 0, the epoch is not "already
--- listed", and the table does not have "32 entries"
-unfoldable pub mayAdd : List Entry → Entry → Bool
-mayAdd t e = ltb (e .parent) (length t) && leb 1 (e .node) && not (listed e t) && ltb (length t) maxEntries

@@ -169,9 +169,9 @@ fn compare_keys(table: &[u8], i: usize, j: usize) -> Order
     names::first_of(nodes, sequences)
 }
 
-// "traced back through parents, each with a smaller index": two epochs by their paths. Of two that have different parents the one
-// with the greater parent index is compared by its parent: the other is not below that parent, so where the two paths differ they
-// differ before it, and where they do not, the path that goes on is the greater.
+// Two epochs by their paths, each "traced back through parents, each with a smaller index". Of two that have different parents the one
+// with the greater parent index, say i under p, is compared by p: j is not under p, since its parent's index is below p, so p's path
+// decides as i's would, and where p is j itself, i's path goes on and is the greater.
 fn compare_epochs(table: &[u8], i: usize, j: usize) -> Order
     requires { ⌜ (keepsTable (now table) ≡ true) × (i < length (now table) / entrySize) × (j < length (now table) / entrySize) ⌝ }
     ensures { λ r. ⌜ r ≡ compareEpochs (entriesOf (now (table .entry))) i j ⌝ }
@@ -272,8 +272,8 @@ pub fn answer(n: Next) -> Answer
     }
 }
 
-// The step from c towards d. The path of d is "traced back through parents, each with a smaller index": c is on it only as long as
-// the index is not below c, and its child on it is where the step leads.
+// The step from c towards d, whose path is "traced back through parents, each with a smaller index": c can be on it only while the
+// index is not below c, and the epoch on it whose parent is c is the child that the step goes down to.
 fn step_to(table: &[u8], d: usize, c: usize) -> Step
     requires { ⌜ (keepsTable (now table) ≡ true) × (d < length (now table) / entrySize) × (c < length (now table) / entrySize) ⌝ }
     ensures { λ r. ⌜ r ≡ stepTo (entriesOf (now (table .entry))) d c ⌝ }
