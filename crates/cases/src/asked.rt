@@ -3,23 +3,22 @@ ghost use Prim.Native.Nat.{_*_, _≤_};
 ghost use lib.ListN.{length};
 ghost use Rattle.slots.specs.Slots.{slotSize};
 use crate::text::NAMES;
-use crate::text::after_word;
-use crate::text::after_words;
-use crate::text::answer;
-use crate::text::byte;
-use crate::text::first;
-use crate::text::line_end;
-use crate::text::number;
 use crate::text::put;
 use crate::text::put_all;
-use crate::text::say;
 use crate::text::show;
-use libc::STDOUT_FILENO;
 use names::Author;
 use pages::PAGE;
 use pages::Place;
 use slots::HEAD;
 use slots::SLOT;
+use words::after_word;
+use words::after_words;
+use words::answer;
+use words::byte;
+use words::first;
+use words::first_mut;
+use words::number;
+use words::say;
 
 fn check(slot: &[u8; SLOT]) {
     answer(pages::check_slot(slot));
@@ -112,13 +111,6 @@ fn edit(insert: bool, page: &[u8], slot: &[u8], out: &mut [u8]) -> usize {
     pages::count(a)
 }
 
-fn edit_within(insert: bool, page: &[u8], slot: &[u8], out: &mut [u8], room: usize) -> usize {
-    if room <= out.len() {
-        return edit(insert, page, slot, &mut out[..room]);
-    }
-    edit(insert, page, slot, out)
-}
-
 fn edit_case(text: &[u8], at: usize, insert: bool) {
     let room = number(text, at);
     let mut slot = [0u8; SLOT];
@@ -126,12 +118,11 @@ fn edit_case(text: &[u8], at: usize, insert: bool) {
     let mut page = [0u8; NAMES * SLOT];
     let n = put_all(&mut page, text, next, true, 0);
     let mut out = [170u8; NAMES * SLOT];
-    let count = edit_within(
+    let count = edit(
         insert,
         first(&page, SLOT * n),
         &slot,
-        &mut out,
-        room.value as usize,
+        first_mut(&mut out, room.value as usize),
     );
     if 0 < count {
         if count <= NAMES {
@@ -152,12 +143,11 @@ fn many_case(text: &[u8], at: usize, insert: bool) {
         put(&mut slot, 0, 7, b"9.2.0.0", 0);
         slots::write_u32(&mut slot, HEAD + 4, sequence.value);
         let mut out = [170u8; PAGE];
-        edit_within(
+        edit(
             insert,
             first(&page, SLOT * lines),
             &slot,
-            &mut out,
-            room.value as usize,
+            first_mut(&mut out, room.value as usize),
         );
     }
 }
@@ -200,26 +190,18 @@ fn renamed(back: bool, page: &[u8], log: &[u8], author: Author, out: &mut [u8]) 
     pages::count(a)
 }
 
-fn renamed_within(
-    back: bool,
-    page: &[u8],
-    log: &[u8],
-    author: Author,
-    out: &mut [u8],
-    room: usize,
-) -> usize {
-    if room <= out.len() {
-        return renamed(back, page, log, author, &mut out[..room]);
-    }
-    renamed(back, page, log, author, out)
-}
-
 // The page of the names from a place on, with that log.
 fn with_log(text: &[u8], at: usize, back: bool, log: &[u8], author: Author, room: usize) {
     let mut page = [0u8; NAMES * SLOT];
     let n = put_all(&mut page, text, at, true, 0);
     let mut out = [170u8; NAMES * SLOT];
-    let count = renamed_within(back, first(&page, SLOT * n), log, author, &mut out, room);
+    let count = renamed(
+        back,
+        first(&page, SLOT * n),
+        log,
+        author,
+        first_mut(&mut out, room),
+    );
     if 0 < count {
         if count <= NAMES {
             show(first(&out, SLOT * count));
@@ -227,28 +209,9 @@ fn with_log(text: &[u8], at: usize, back: bool, log: &[u8], author: Author, room
     }
 }
 
-// The author that stands at a place, and the place after it.
-struct By {
-    author: Author,
-    next: usize,
-}
-
-fn author_at(text: &[u8], at: usize) -> By {
-    let node = number(text, at);
-    let sequence = number(text, node.next);
-    let author = Author {
-        node: (node.value % 65536) as u16,
-        sequence: sequence.value,
-    };
-    By {
-        author,
-        next: sequence.next,
-    }
-}
-
 fn rename_case(text: &[u8], at: usize, back: bool) {
     let room = number(text, at);
-    let by = author_at(text, room.next);
+    let by = words::author(text, room.next);
     let n = number(text, by.next);
     let k = n.value as usize;
     if k <= NAMES {
@@ -268,7 +231,7 @@ fn rename_case(text: &[u8], at: usize, back: bool) {
 
 fn long_case(text: &[u8], at: usize, back: bool) {
     let n = number(text, at);
-    let by = author_at(text, n.next);
+    let by = words::author(text, n.next);
     let k = n.value as usize;
     if k <= 257 {
         let mut log = [0u8; 257 * SLOT];
@@ -332,25 +295,18 @@ fn kind(text: &[u8], at: usize) -> u8
 }
 
 // A line: it is written, and what it asks for is done.
-fn run(text: &[u8], at: usize, end: usize) {
-    if at <= end {
-        if end <= text.len() {
-            io::write_all(STDOUT_FILENO, &text[at..end]);
-            let word = kind(text, at);
-            if byte(text, at) == b'#' {
-                io::write_all(STDOUT_FILENO, b"\n");
-            } else {
-                call_case(text, after_word(text, at), word);
-            }
-        }
+fn run(text: &[u8], at: usize)
+    requires { ⌜ at ≤ length (now text) ⌝ }
+{
+    if words::write_line(text, at) {
+        call_case(text, after_word(text, at), kind(text, at));
     }
 }
 
 pub(crate) fn run_all(text: &[u8]) {
-    let mut at: usize = 0;
-    while at < text.len() {
-        let end = line_end(text, at);
-        run(text, at, end);
-        at = end + 1;
+    for at in 0..text.len() {
+        if words::line_begins(text, at) {
+            run(text, at);
+        }
     }
 }

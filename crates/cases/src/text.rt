@@ -1,113 +1,19 @@
-// Reading the text of a case, and writing what came back.
-ghost use Prim.Native.Nat.{_+_, _*_, _≤_, _<_};
+// Names and pages in the text of a case.
+ghost use Prim.Native.Nat.{_+_, _*_, _≤_};
 ghost use lib.ListN.{length};
 ghost use Rattle.slots.specs.Bytes.{tupleSize};
 ghost use Rattle.slots.specs.Slots.{slotSize};
-use libc::STDOUT_FILENO;
 use listings::TEXT;
 use names::LIMIT;
-use pages::Answer;
 use slots::HEAD;
 use slots::SLOT;
 use slots::TUPLE;
+use words::last;
+use words::line_ended;
+use words::number;
 
 // The most names in a line.
 pub(crate) const NAMES: usize = 8;
-
-// A number of the text, and the place after the byte that ends it.
-pub(crate) struct Read {
-    pub value: u32,
-    pub next: usize,
-}
-
-// The byte at a place, and the one before a place; 0 where there is none.
-pub(crate) fn byte(text: &[u8], at: usize) -> u8 {
-    if at < text.len() { text[at] } else { 0 }
-}
-
-fn last(text: &[u8], next: usize) -> u8 {
-    if 0 < next { byte(text, next - 1) } else { 0 }
-}
-
-// Whether the line has ended at a place: no space stands before it.
-fn line_ended(text: &[u8], at: usize) -> bool {
-    last(text, at) != b' '
-}
-
-fn after(text: &[u8], at: usize) -> usize {
-    if at < text.len() { at + 1 } else { at }
-}
-
-// The place after the word that begins at a place, and the space or the newline that ends it.
-pub(crate) fn after_word(text: &[u8], at: usize) -> usize {
-    let mut i = at;
-    while i < text.len() {
-        if text[i] <= b' ' {
-            break;
-        }
-        i += 1;
-    }
-    after(text, i)
-}
-
-// The place after n words.
-pub(crate) fn after_words(text: &[u8], at: usize, n: usize) -> usize {
-    let mut i = at;
-    let mut k: usize = 0;
-    while k < n {
-        i = after_word(text, i);
-        k += 1;
-    }
-    i
-}
-
-// The end of the line that begins at a place.
-pub(crate) fn line_end(text: &[u8], at: usize) -> usize
-    requires { ⌜ at ≤ length (now text) ⌝ }
-    ensures { λ r. ⌜ (at ≤ r) × (r ≤ length (now (text .entry))) ⌝ }
-{
-    let mut i = at;
-    while i < text.len() {
-        if text[i] == b'\n' {
-            break;
-        }
-        i += 1;
-    }
-    i
-}
-
-// The digits that stand at a place, as a number modulo 2^32.
-fn digits(text: &[u8], at: usize) -> Read {
-    let mut value: u64 = 0;
-    let mut i = at;
-    while i < text.len() {
-        let b = text[i];
-        if b < b'0' {
-            break;
-        }
-        if b'9' < b {
-            break;
-        }
-        value = (value * 10 + (b - b'0') as u64) % 4294967296;
-        i += 1;
-    }
-    Read {
-        value: value as u32,
-        next: after(text, i),
-    }
-}
-
-// A number with or without a minus, in two's complement.
-pub(crate) fn number(text: &[u8], at: usize) -> Read {
-    if byte(text, at) == b'-' {
-        let n = digits(text, after(text, at));
-        return Read {
-            value: std::num::wrapping_sub_u32(0, n.value),
-            next: n.next,
-        };
-    }
-    digits(text, at)
-}
 
 // The tuple that stands at a place, written to out from p on; the place after it.
 fn put_tuple(out: &mut [u8], p: usize, text: &[u8], at: usize) -> usize
@@ -173,26 +79,9 @@ pub(crate) fn put_all(page: &mut [u8], text: &[u8], at: usize, counted: bool, li
     k
 }
 
-pub(crate) fn say(a: u64, b: u64) {
-    io::write_all(STDOUT_FILENO, b": ");
-    io::print_decimal(STDOUT_FILENO, a);
-    io::write_all(STDOUT_FILENO, b" ");
-    io::print_decimal(STDOUT_FILENO, b);
-    io::write_all(STDOUT_FILENO, b"\n");
-}
-
-pub(crate) fn answer(a: Answer) {
-    say(pages::number(a) as u64, pages::count(a) as u64);
-}
-
 // The book that stands in a page, a line for each slot.
 pub(crate) fn show(page: &[u8]) {
     let mut text = [0u8; TEXT];
     let end = listings::list(page, b"", &mut text);
-    io::write_all(STDOUT_FILENO, &text[..end]);
-}
-
-// The first n bytes, or all of fewer.
-pub(crate) fn first(bytes: &[u8], n: usize) -> &[u8] {
-    if n <= bytes.len() { &bytes[..n] } else { bytes }
+    words::write(&text[..end]);
 }

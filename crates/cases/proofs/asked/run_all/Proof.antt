@@ -1,21 +1,22 @@
 -- `cases::asked::run_all` meets its contract. Assumes nothing.
-use Prim.Native.Nat.{_-_, _≤_, _+_}
+use Prim.Native.Nat.{_-_, _≤_}
+use mathlib.Core.Path.{_≡_}
 use borrow.Author.Needs.{needs}
 use lib.ListN.{length}
 use Rattle.cases.proofs.asked.run_all.Statement.{statement}
 use Rattle.cases.proofs.asked.run_all.Tie as tie
 
 abbrev Inv-loop : tie.InvT-loop
-Inv-loop text at₀ at = at ≤ length text + 1
+Inv-loop text at₀ at-end at = (at ≤ at-end) × (at-end ≡ length text)
 
 abbrev μ-loop : tie.MeasureT-loop
-μ-loop text at₀ at = length text + 1 - at
+μ-loop text at₀ at-end at = at-end - at
 
 loop-holds : tie.Need-loop-holds Inv-loop μ-loop
 loop-holds c = search needs
 
-line-end-requires : tie.Need-line-end-requires Inv-loop μ-loop
-line-end-requires c κs = search needs
+line-begins-requires : tie.Need-line-begins-requires Inv-loop μ-loop
+line-begins-requires c κs = search needs
 
 run-requires : tie.Need-run-requires Inv-loop μ-loop
 run-requires c κs = search needs
@@ -39,7 +40,7 @@ run-all-spec =
     Inv-loop
     μ-loop
     loop-holds
-    line-end-requires
+    line-begins-requires
     run-requires
     add-at
     loop-less

@@ -1,8 +1,8 @@
--- `cases::text::after_words` meets its contract. Assumes nothing.
+-- `words::after_words` meets its contract. Assumes nothing.
 use Prim.Native.Nat.{_-_, _≤_}
 use borrow.Author.Needs.{needs}
-use Rattle.cases.proofs.text.after_words.Statement.{statement}
-use Rattle.cases.proofs.text.after_words.Tie as tie
+use Rattle.words.proofs.after_words.Statement.{statement}
+use Rattle.words.proofs.after_words.Tie as tie
 
 abbrev Inv-loop : tie.InvT-loop
 Inv-loop text at n i₀ k₀ i k = k ≤ n

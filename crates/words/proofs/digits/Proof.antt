@@ -1,9 +1,9 @@
--- `cases::text::digits` meets its contract. Assumes nothing.
+-- `words::digits` meets its contract. Assumes nothing.
 use Prim.Native.Nat.{_-_, _<_}
 use borrow.Author.Needs.{needs}
 use lib.ListN.{length}
-use Rattle.cases.proofs.text.digits.Statement.{statement}
-use Rattle.cases.proofs.text.digits.Tie as tie
+use Rattle.words.proofs.digits.Statement.{statement}
+use Rattle.words.proofs.digits.Tie as tie
 
 abbrev Inv-loop : tie.InvT-loop
 Inv-loop text at value₀ i₀ value i = value < 4294967296

@@ -1,9 +1,9 @@
--- `cases::text::after_word` meets its contract. Assumes nothing.
+-- `words::after_word` meets its contract. Assumes nothing.
 use Prim.Native.Nat.{_-_}
 use borrow.Author.Needs.{needs}
 use lib.ListN.{length}
-use Rattle.cases.proofs.text.after_word.Statement.{statement}
-use Rattle.cases.proofs.text.after_word.Tie as tie
+use Rattle.words.proofs.after_word.Statement.{statement}
+use Rattle.words.proofs.after_word.Tie as tie
 
 abbrev Inv-loop : tie.InvT-loop
 Inv-loop text at i₀ i = Unit {0}

@@ -1,9 +1,9 @@
--- `cases::text::line_end` meets its contract. Assumes nothing.
+-- `words::line_end` meets its contract. Assumes nothing.
 use Prim.Native.Nat.{_-_, _≤_}
 use borrow.Author.Needs.{needs}
 use lib.ListN.{length}
-use Rattle.cases.proofs.text.line_end.Statement.{statement}
-use Rattle.cases.proofs.text.line_end.Tie as tie
+use Rattle.words.proofs.line_end.Statement.{statement}
+use Rattle.words.proofs.line_end.Tie as tie
 
 abbrev Inv-loop : tie.InvT-loop
 Inv-loop text at i₀ i = (at ≤ i) × (i ≤ length text)
