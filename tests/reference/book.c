@@ -2,23 +2,7 @@
 
 #include <string.h>
 
-/* "All numbers are big-endian" */
-
-static uint32_t read_number(const uint8_t *bytes, size_t count)
-{
-    uint32_t number = 0;
-    for (size_t i = 0; i < count; i++)
-        number = number << 8 | bytes[i];
-    return number;
-}
-
-static void write_number(uint8_t *bytes, size_t count, uint32_t number)
-{
-    for (size_t i = count; i > 0; i--) {
-        bytes[i - 1] = (uint8_t)(number & 255);
-        number >>= 8;
-    }
-}
+#include "numbers.h"
 
 /* "offsets in two's complement" */
 static int32_t signed_number(uint32_t bits)
@@ -35,12 +19,6 @@ static bool all_zero(const uint8_t *bytes, size_t count)
 }
 
 /* "Tuples compare by position, node, sequence, offset, in that order, offset signed." */
-
-static int compare_numbers(int64_t a, int64_t b)
-{
-    return (a > b) - (a < b);
-}
-
 int compare_tuples(Tuple a, Tuple b)
 {
     if (a.position != b.position)
@@ -127,19 +105,19 @@ Name tuples_after(const Name *name, const Name *start)
 static Tuple read_tuple(const uint8_t *bytes)
 {
     Tuple t;
-    t.position = (uint16_t)read_number(bytes, 2);
-    t.node = (uint16_t)read_number(bytes + 2, 2);
-    t.sequence = read_number(bytes + 4, 4);
-    t.offset = signed_number(read_number(bytes + 8, 4));
+    t.position = (uint16_t)from_bytes(bytes, 2);
+    t.node = (uint16_t)from_bytes(bytes + 2, 2);
+    t.sequence = from_bytes(bytes + 4, 4);
+    t.offset = signed_number(from_bytes(bytes + 8, 4));
     return t;
 }
 
 static void write_tuple(uint8_t *bytes, Tuple t)
 {
-    write_number(bytes, 2, t.position);
-    write_number(bytes + 2, 2, t.node);
-    write_number(bytes + 4, 4, t.sequence);
-    write_number(bytes + 8, 4, (uint32_t)t.offset);
+    to_bytes(bytes, 2, t.position);
+    to_bytes(bytes + 2, 2, t.node);
+    to_bytes(bytes + 4, 4, t.sequence);
+    to_bytes(bytes + 8, 4, (uint32_t)t.offset);
 }
 
 /* "depth 1..8, three zero bytes, line number (u32, any value, repeats allowed), then eight tuples of 12 bytes, the first
@@ -149,7 +127,7 @@ bool read_slot(const uint8_t *bytes, Slot *slot)
     size_t depth = bytes[0];
     if (depth < 1 || depth > DEPTH_LIMIT || !all_zero(bytes + 1, 3))
         return false;
-    slot->line = read_number(bytes + 4, 4);
+    slot->line = from_bytes(bytes + 4, 4);
     slot->name.depth = depth;
     for (size_t i = 0; i < depth; i++)
         slot->name.tuples[i] = read_tuple(bytes + HEAD_BYTES + i * TUPLE_BYTES);
@@ -161,7 +139,7 @@ void write_slot(uint8_t *bytes, const Slot *slot)
 {
     memset(bytes, 0, SLOT_BYTES);
     bytes[0] = (uint8_t)slot->name.depth;
-    write_number(bytes + 4, 4, slot->line);
+    to_bytes(bytes + 4, 4, slot->line);
     for (size_t i = 0; i < slot->name.depth; i++)
         write_tuple(bytes + HEAD_BYTES + i * TUPLE_BYTES, slot->name.tuples[i]);
 }

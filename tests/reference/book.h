@@ -34,7 +34,11 @@ enum {
     NAME_ABSENT = 10,
     PAGE_FULL = 11,
     NO_NEW_NAME = 12,
-    GAP_BEYOND = 16
+    TABLE_LAYOUT = 13,
+    NO_EPOCH = 14,
+    GAP_BEYOND = 16,
+    EPOCH_LISTED = 17,
+    TABLE_FULL = 18
 };
 
 typedef struct {
@@ -60,7 +64,7 @@ typedef struct {
     Slot slots[SLOT_LIMIT];
 } Page;
 
-/* What every call that writes slots gives: "accepted; with the count of slots [..] written", or a refusal, which
+/* What every call that writes gives: "accepted; with the count of slots, entries or bytes written", or a refusal, which
  * "reports count 0 [..] and writes nothing". */
 typedef struct {
     int answer;
