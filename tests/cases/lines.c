@@ -1,58 +1,23 @@
-/*
- * lines DIRECTORY SCRIPTS SEED KIND..: writes so many scripts of random lines for the program `cases`, of these kinds, to
- * the files 0001, 0002, .. of a directory. The same words give the same scripts.
- *
- * Everything is made near the edges: few numbers, so that names meet, nest and follow each other; names that begin with
- * what a rename gives; now and then something broken, out of order, too deep, or with too little room.
- */
+#include "lines.h"
+
 #include <inttypes.h>
 #include <stdio.h>
 #include <stdlib.h>
 #include <string.h>
 
-#include "../reference/chance.h"
-#include "../reference/renames.h"
-
 enum {
-    SCRIPT_BYTES = 16000, /* the program reads at most 32,768 */
-    LONGEST_LINE = 4096,
-    NAMES = 8, /* the most names of a page, and of a log and a page together */
-    FEW = 3    /* the most numbers of each sort that stand in one line */
+    SCRIPT_BYTES = 16000, /* the programs read at most 32,768 */
+    LONGEST_LINE = 4096
 };
-
-#define LENGTH(row) (sizeof(row) / sizeof *(row))
-
-static void fail(const char *what)
-{
-    perror(what);
-    exit(EXIT_FAILURE);
-}
 
 /* ---- chance */
 
-/* Once in so many times. */
-static bool once_in(size_t times)
+bool once_in(size_t times)
 {
     return random_below(times) == 0;
 }
 
-/* ---- numbers and tuples */
-
-static const int64_t all_positions[] = {9, 10, 8, 1, 2, 3, 32768, 65533, 65534};
-static const int64_t all_nodes[] = {2, 1, 3, 256, 65534, 65535};
-static const int64_t all_sequences[] = {0, 1, 2, 11, 2147483648, 4294967294, 4294967295};
-static const int64_t all_offsets[] = {0, 0, 1, -1, 2, 255, 2147483645, 2147483646};
-
-/* The numbers of this line. */
-typedef struct {
-    size_t count;
-    int64_t numbers[FEW];
-} Few;
-
-static Few positions, nodes, sequences, offsets;
-static size_t deepest;
-
-static Few choose_few(const int64_t *all, size_t length)
+Few choose_few(const int64_t *all, size_t length)
 {
     Few few = {1 + random_below(FEW), {0}};
     for (size_t i = 0; i < few.count; i++)
@@ -60,274 +25,44 @@ static Few choose_few(const int64_t *all, size_t length)
     return few;
 }
 
-static int64_t one_of(const Few *few)
+int64_t one_of(const Few *few)
 {
     return few->numbers[random_below(few->count)];
 }
 
-static Tuple random_ordinary(void)
-{
-    Tuple t = {(uint16_t)one_of(&positions), (uint16_t)one_of(&nodes), (uint32_t)one_of(&sequences),
-               (int32_t)one_of(&offsets)};
-    return t;
-}
-
-static Tuple random_marker(void)
-{
-    return once_in(2) ? low_marker : high_marker;
-}
-
-/* ---- names; each function may make a row that is no name, and random_name tries again */
-
-/* The names that have come in this line: new ones are made from them. */
-static Name pool[64];
-static size_t pooled;
-
-static void remember(Name name)
-{
-    if (pooled < LENGTH(pool))
-        pool[pooled++] = name;
-}
-
-static const Name *pooled_name(void)
-{
-    return &pool[random_below(pooled)];
-}
-
-static Name random_row(size_t depth)
-{
-    Name row = {depth, {{0, 0, 0, 0}}};
-    for (size_t i = 0; i < depth; i++)
-        row.tuples[i] = 0 < i && i + 1 < depth && once_in(6) ? random_marker() : random_ordinary();
-    if (row.tuples[depth - 1].offset < 0)
-        row.tuples[depth - 1].offset = 0;
-    return row;
-}
-
-/* a·b, or a alone where that would be far too deep */
-static Name followed(const Name *a, const Name *b)
-{
-    return a->depth + b->depth <= LONGEST_ROW ? joined(a, b) : *a;
-}
-
-static Name first_tuples(const Name *name, size_t depth)
-{
-    Name row = *name;
-    row.depth = depth;
-    return row;
-}
-
-/* A name with its last offset one higher or lower. */
-static Name shifted(const Name *name)
-{
-    Name row = *name;
-    row.tuples[row.depth - 1].offset += once_in(2) ? 1 : -1;
-    return row;
-}
-
-/* name·m·tail, one below the name·M·tail, and others that have a marker where two names are joined */
-static Name joined_by_marker(const Name *name, const Name *tail)
-{
-    Name start = once_in(2) ? shifted(name) : *name, marker = row_of(random_marker());
-    start = followed(&start, &marker);
-    return followed(&start, tail);
-}
-
-/* A name made from one that has come. */
-static Name random_relative(void)
-{
-    const Name *other = pooled_name(), *second = pooled_name();
-    Name row;
-    switch (random_below(7)) {
-    case 0:
-        return shifted(other);
-    case 1:
-        return first_tuples(other, 1 + random_below(other->depth));
-    case 2:
-        row = random_row(1 + random_below(2));
-        return followed(other, &row);
-    case 3:
-        return followed(other, second);
-    case 4:
-        return joined_by_marker(other, second);
-    case 5:
-        row = first_tuples(other, other->depth - 1);
-        return followed(&row, second);
-    default:
-        row = *other;
-        row.tuples[random_below(row.depth)] = random_ordinary();
-        return row;
-    }
-}
-
-/* Any name of this line's numbers. */
-static Name random_name(void)
-{
-    Name name;
-    do
-        name = pooled > 0 && !once_in(3) ? random_relative() : random_row(1 + random_below(deepest));
-    while (!is_name(&name));
-    remember(name);
-    return name;
-}
-
-/* A name of seven or eight tuples where that can be had. */
-static Name deepened(Name name)
-{
-    size_t depth = DEPTH_LIMIT - random_below(2);
-    if (name.depth >= depth)
-        return name;
-    Name tail = random_row(depth - name.depth);
-    return followed(&name, &tail);
-}
-
-/* Begins a line: its numbers, and no name has come. */
-static void choose_numbers(void)
-{
-    static const size_t depths[] = {1, 1, 2, 2, 2, 3, 4, DEPTH_LIMIT - 1, DEPTH_LIMIT};
-    positions = choose_few(all_positions, LENGTH(all_positions));
-    nodes = choose_few(all_nodes, LENGTH(all_nodes));
-    sequences = choose_few(all_sequences, LENGTH(all_sequences));
-    offsets = choose_few(all_offsets, LENGTH(all_offsets));
-    deepest = depths[random_below(LENGTH(depths))];
-    pooled = 0;
-}
-
-/* ---- rows of names */
-
-typedef struct {
-    size_t count;
-    Name names[4 * NAMES];
-} Names;
-
-static int by_name(const void *a, const void *b)
-{
-    return compare_names(a, b);
-}
-
-/* In rising order, each once. */
-static void put_in_order(Names *row)
-{
-    qsort(row->names, row->count, sizeof *row->names, by_name);
-    size_t kept = 0;
-    for (size_t i = 0; i < row->count; i++)
-        if (kept == 0 || compare_names(&row->names[kept - 1], &row->names[i]) != 0)
-            row->names[kept++] = row->names[i];
-    row->count = kept;
-}
-
-static void take_out(Names *row, size_t at)
-{
-    row->count--;
-    for (size_t i = at; i < row->count; i++)
-        row->names[i] = row->names[i + 1];
-}
-
-static void keep_at_most(Names *row, size_t most)
-{
-    while (row->count > most)
-        take_out(row, random_below(row->count));
-}
-
-static Names random_names(size_t most)
-{
-    Names row = {random_below(most + 1), {{0, {{0, 0, 0, 0}}}}};
-    for (size_t i = 0; i < row.count; i++) {
-        row.names[i] = random_name();
-        if (deepest > 4 && once_in(4))
-            row.names[i] = deepened(row.names[i]);
-    }
-    put_in_order(&row);
-    return row;
-}
-
-/* Something that a name must not have; a few of these are harmless. */
-static void break_name(Name *name)
-{
-    static const int64_t edges[] = {0, 1, 65534, 65535, -1, -2, 2147483646, 2147483647, INT32_MIN};
-    Tuple *t = &name->tuples[random_below(name->depth)];
-    int64_t edge = edges[random_below(LENGTH(edges))];
-    switch (random_below(5)) {
-    case 0: t->position = (uint16_t)(edge & 65535); break;
-    case 1: t->node = (uint16_t)(edge & 65535); break;
-    case 2: t->offset = (int32_t)edge; break;
-    case 3: *t = random_marker(); break;
-    default: name->tuples[name->depth - 1].offset = -1; break;
-    }
-}
-
-/* Breaks a name, or the order of two. */
-static void damage(Names *row)
-{
-    if (row->count == 0)
-        return;
-    Name *a = &row->names[random_below(row->count)], *b = &row->names[random_below(row->count)];
-    if (once_in(2)) {
-        break_name(a);
-    } else {
-        Name held = *a;
-        *a = *b;
-        if (once_in(2))
-            *b = held;
-    }
-}
+const int64_t all_nodes[] = {2, 1, 3, 256, 65534, 65535};
+const int64_t all_sequences[] = {0, 1, 2, 11, 2147483648, 4294967294, 4294967295};
 
 /* ---- writing a line */
 
 static char line[LONGEST_LINE];
 static size_t line_length;
 
-static void put(const char *text)
+void put(const char *text)
 {
     line_length += (size_t)snprintf(line + line_length, sizeof line - line_length, "%s", text);
 }
 
-static void begin_line(const char *kind)
-{
-    line_length = 0;
-    put(kind);
-}
-
-static void put_number(int64_t number)
+void put_number(int64_t number)
 {
     char text[32];
     snprintf(text, sizeof text, " %" PRId64, number);
     put(text);
 }
 
-static void put_name(const Name *name)
+void put_room(size_t enough, size_t most)
 {
-    for (size_t i = 0; i < name->depth; i++) {
-        char text[64];
-        Tuple t = name->tuples[i];
-        snprintf(text, sizeof text, "%s%" PRIu16 ".%" PRIu16 ".%" PRIu32 ".%" PRId32, i == 0 ? " " : "/", t.position,
-                 t.node, t.sequence, t.offset);
-        put(text);
-    }
-}
-
-static void put_names(const Names *row)
-{
-    for (size_t i = 0; i < row->count; i++)
-        put_name(&row->names[i]);
-}
-
-/* Room for so many slots: mostly enough of it, or just enough, or too little. */
-static void put_room(size_t slots)
-{
-    size_t enough = slots * SLOT_BYTES;
     switch (random_below(8)) {
     case 0: put_number(enough > 0 ? (int64_t)enough - 1 : 0); break;
     case 1: put_number((int64_t)random_below(enough + 1)); break;
     case 2: put_number((int64_t)enough + 1); break;
-    case 3: put_number(NAMES * SLOT_BYTES); break;
+    case 3: put_number((int64_t)most); break;
     case 4: put_number(4294967295); break;
     default: put_number((int64_t)enough); break;
     }
 }
 
-/* The node of an author, now and then none; the program takes it modulo 65536. */
-static void put_node(uint16_t node)
+void put_node(uint16_t node)
 {
     if (once_in(25))
         put_number(once_in(2) ? 0 : 65536);
@@ -335,425 +70,41 @@ static void put_node(uint16_t node)
         put_number(node);
 }
 
-/* ---- lines that check */
-
-static Name maybe_broken_name(void)
-{
-    Name name = random_name();
-    if (once_in(2))
-        break_name(&name);
-    return name;
-}
-
-static void slot_line(void)
-{
-    Name name = maybe_broken_name();
-    put_name(&name);
-}
-
-static void byte_line(void)
-{
-    static const int64_t values[] = {0, 1, 2, 8, 9, 127, 128, 255};
-    Name name = random_name();
-    put_number((int64_t)random_below(once_in(3) ? 5 : SLOT_BYTES));
-    put_number(values[random_below(LENGTH(values))]);
-    put_name(&name);
-}
-
-static Names maybe_damaged_names(size_t most)
-{
-    Names row = random_names(most);
-    if (once_in(3))
-        damage(&row);
-    return row;
-}
-
-static void page_line(void)
-{
-    Names page = maybe_damaged_names(NAMES);
-    put_names(&page);
-}
-
-static void log_line(void)
-{
-    static const int64_t lines[] = {0, 0, 0, 1, 256, 65536, 4294967295};
-    Names log = maybe_damaged_names(NAMES);
-    put_number(lines[random_below(LENGTH(lines))]);
-    put_names(&log);
-}
-
-static void size_line(void)
-{
-    int64_t bytes = (int64_t)(random_below(SLOT_LIMIT + 2) * SLOT_BYTES);
-    if (once_in(4))
-        bytes = once_in(2) ? PAGE_BYTES : PAGE_BYTES + SLOT_BYTES;
-    if (once_in(3) && bytes > 0)
-        bytes += once_in(2) ? 1 : -1;
-    put_number(bytes);
-}
-
-static void find_line(void)
-{
-    Names page = random_names(NAMES);
-    Name name = page.count > 0 && once_in(2) ? page.names[random_below(page.count)] : random_name();
-    put_name(&name);
-    put_names(&page);
-}
-
-/* ---- lines that edit */
-
-static void edit_line(bool insert)
-{
-    Names page = random_names(NAMES);
-    Name name = page.count > 0 && once_in(insert ? 5 : 2) ? page.names[random_below(page.count)] : random_name();
-    size_t written = insert ? page.count + 1 : page.count > 0 ? page.count - 1 : 0;
-    if (once_in(8))
-        damage(&page);
-    if (once_in(8))
-        break_name(&name);
-    put_room(written);
-    put_name(&name);
-    put_names(&page);
-}
-
-static void insert_line(void)
-{
-    edit_line(true);
-}
-
-static void remove_line(void)
-{
-    edit_line(false);
-}
-
-/* Of a page of so many slots: a name that is there or not, and room for one slot more, as many, or one less. */
-static void many_line(void)
-{
-    size_t slots = once_in(2) ? SLOT_LIMIT - random_below(2) : 2 + random_below(SLOT_LIMIT - 1);
-    put_number((int64_t)slots);
-    put_number((int64_t)(once_in(2) ? slots : random_below(SLOT_LIMIT + 1)));
-    put_number((int64_t)((slots - 1 + random_below(3)) * SLOT_BYTES - (once_in(3) ? 1 : 0)));
-}
-
-/* Names of which each is a part of the next, or next to it: where new names are hard to find. */
-static Names close_names(void)
-{
-    static const Tuple low[] = {{1, 1, 0, -1}, {1, 2, 0, 0}, {1, 1, 0, 1}, {2, 1, 0, 0}, {3, 1, 0, 0}};
-    Names row = random_names(3);
-    for (size_t i = 0; i < 3; i++) {
-        Name name = row.count > 0 ? row.names[random_below(row.count)] : random_name();
-        Name after = row_of(once_in(4) ? random_marker() : low[random_below(LENGTH(low))]);
-        name = followed(&name, &after);
-        if (once_in(2)) {
-            after = row_of(random_ordinary());
-            name = followed(&name, &after);
-        }
-        if (is_name(&name))
-            row.names[row.count++] = name;
-    }
-    put_in_order(&row);
-    return row;
-}
-
-static void new_line(void)
-{
-    Names page = once_in(2) ? close_names() : random_names(NAMES);
-    size_t gap = random_below(page.count + 1);
-    if (once_in(8))
-        gap = page.count + 1 + random_below(2);
-    if (once_in(8))
-        damage(&page);
-    put_number(once_in(60) ? 4294967295 : (int64_t)gap);
-    put_node((uint16_t)one_of(&nodes));
-    put_names(&page);
-}
-
-/* ---- lines that rename and take back */
-
-static Renaming renaming;
-
-static void set_log(const Names *log)
-{
-    renaming.log.count = log->count;
-    for (size_t i = 0; i < log->count; i++) {
-        renaming.log.slots[i].line = 0;
-        renaming.log.slots[i].name = log->names[i];
-    }
-}
-
-static Page page_of(const Names *row)
-{
-    Page page;
-    page.count = row->count;
-    for (size_t i = 0; i < row->count; i++) {
-        page.slots[i].line = (uint32_t)i + 1;
-        page.slots[i].name = row->names[i];
-    }
-    return page;
-}
-
-/* Any author of this line's numbers, or of numbers next to them. */
-static void choose_author(void)
-{
-    renaming.node = (uint16_t)(once_in(3) ? all_nodes[random_below(LENGTH(all_nodes))] : one_of(&nodes));
-    renaming.sequence =
-        (uint32_t)(once_in(3) ? all_sequences[random_below(LENGTH(all_sequences))] : one_of(&sequences));
-}
-
-/* An author that is fresh, if a few trials find one. */
-static void choose_fresh_author(const Names *row)
-{
-    Page page = page_of(row);
-    choose_author();
-    for (size_t i = 0; i < 20 && !is_fresh(&page, &renaming); i++)
-        choose_author();
-}
-
-/* Gives one of the names the author's own pair in its first tuple. */
-static void make_stale(Names *row)
-{
-    if (row->count == 0)
-        return;
-    Tuple *t = &row->names[random_below(row->count)].tuples[0];
-    t->node = renaming.node;
-    t->sequence = renaming.sequence;
-    put_in_order(row);
-}
-
-static const Name *logged_name(void)
-{
-    return &renaming.log.slots[random_below(renaming.log.count)].name;
-}
-
-/* Names of the log, names near it, and names whose first tuple has the log's first position. */
-static Names parent_page(size_t most)
-{
-    Names page = random_names(most);
-    for (size_t i = 0; i < page.count; i++) {
-        if (once_in(3))
-            page.names[i] = *logged_name();
-        else if (once_in(4))
-            page.names[i].tuples[0].position = logged_name()->tuples[0].position;
-    }
-    put_in_order(&page);
-    return page;
-}
-
-/* A row that begins as names of the child epoch do: N(k) or (p, A, s, -1), and a tail, which may be what another name
- * comes back as. */
-static Name child_row(void)
-{
-    int32_t k = (int32_t)random_below(renaming.log.count + 2) - 1;
-    Name start = new_row(&renaming, k), tail = *pooled_name(), marker = row_of(random_marker());
-    switch (random_below(9)) {
-    case 0:
-        return start;
-    case 1:
-        tail = *logged_name();
-        return followed(&start, &tail);
-    case 2:
-        tail = shifted(logged_name());
-        return followed(&start, &tail);
-    case 3:
-        tail = joined_by_marker(logged_name(), &tail);
-        return followed(&start, &tail);
-    case 4:
-        start = followed(&start, &marker);
-        return followed(&start, &tail);
-    case 5:
-        tail = new_row(&renaming, (int32_t)random_below(renaming.log.count + 2));
-        return followed(&start, &tail);
-    case 6:
-        return take_name_back(&renaming, &tail).name;
-    case 7:
-        tail = take_name_back(&renaming, &tail).name;
-        return followed(&start, &tail);
-    default:
-        return followed(&start, &tail);
-    }
-}
-
-/* A page renamed, then edited with names of both epochs. */
-static Names child_page(size_t most)
-{
-    Names page = parent_page(most), child = {0, {{0, {{0, 0, 0, 0}}}}};
-    for (size_t i = 0; i < page.count; i++) {
-        Name name = rename_name(&renaming, &page.names[i]).name;
-        if (is_name(&name)) {
-            child.names[child.count++] = name;
-            remember(name);
-        }
-    }
-    for (size_t i = random_below(2 * NAMES); i > 0; i--) {
-        Name name = once_in(4) ? random_name() : child_row();
-        if (is_name(&name)) {
-            child.names[child.count++] = name;
-            remember(name);
-        }
-    }
-    put_in_order(&child);
-    keep_at_most(&child, most);
-    return child;
-}
-
-static Names random_log(size_t most)
-{
-    Names log;
-    do
-        log = random_names(once_in(2) ? most : 2);
-    while (log.count == 0);
-    return log;
-}
-
-static void renamed_line(bool back)
-{
-    Names log = random_log(NAMES - 1), page;
-    set_log(&log);
-    if (back) {
-        if (once_in(4))
-            choose_author();
-        else
-            choose_fresh_author(&log);
-        page = child_page(NAMES - log.count);
-    } else {
-        page = parent_page(NAMES - log.count);
-        choose_fresh_author(&page);
-    }
-    if (once_in(12))
-        make_stale(once_in(2) ? &log : &page);
-    if (once_in(12))
-        damage(&page);
-    if (once_in(12))
-        damage(&log);
-    if (once_in(25))
-        log.count = 0;
-    put_room(page.count);
-    put_node(renaming.node);
-    put_number(renaming.sequence);
-    put_number((int64_t)log.count);
-    put_names(&log);
-    put_names(&page);
-}
-
-static void rename_line(void)
-{
-    renamed_line(false);
-}
-
-static void take_line(void)
-{
-    renamed_line(true);
-}
-
-/* A log of (9, 2, 0, 0), (9, 2, 1, 0), .. */
-static void set_long_log(size_t n)
-{
-    renaming.log.count = n;
-    for (size_t i = 0; i < n; i++) {
-        Tuple t = {9, 2, (uint32_t)i, 0};
-        renaming.log.slots[i].line = 0;
-        renaming.log.slots[i].name = row_of(t);
-    }
-}
-
-/* A name of the log, or right after it, or before it. */
-static Name long_name(void)
-{
-    size_t n = renaming.log.count;
-    size_t places[] = {0, 1, n / 2, n - 1, n, random_below(n)};
-    Tuple t = {9, 2, (uint32_t)places[random_below(LENGTH(places))], 0}, before = {9, 1, 4294967295, 0};
-    return row_of(once_in(8) ? before : t);
-}
-
-/* N(k), or right before or after all of these. */
-static Name long_start(void)
-{
-    int32_t n = (int32_t)renaming.log.count;
-    int32_t places[] = {-1, 0, 1, n / 2, n - 1, n, (int32_t)random_below((size_t)n)};
-    return new_row(&renaming, places[random_below(LENGTH(places))]);
-}
-
-static void long_line_of(bool back)
-{
-    static const size_t sizes[] = {1, 2, 3, 127, 128, 255, 256, 256};
-    size_t n = once_in(2) ? sizes[random_below(LENGTH(sizes))] : 1 + random_below(SLOT_LIMIT);
-    set_long_log(n);
-    for (size_t i = 0; i < 6; i++)
-        remember(long_name());
-    choose_author();
-    if (renaming.node == 2 && !once_in(8))
-        renaming.sequence = (uint32_t)(n + random_below(2));
-    Names page = {0, {{0, {{0, 0, 0, 0}}}}};
-    for (size_t i = random_below(NAMES + 1); i > 0; i--) {
-        Name name = once_in(3) ? random_name() : long_name(), start = long_start();
-        if (back && !once_in(4))
-            name = once_in(2) ? child_row() : followed(&start, &name);
-        else if (once_in(30))
-            name = start;
-        else if (once_in(20))
-            name = deepened(name);
-        if (is_name(&name)) {
-            page.names[page.count++] = name;
-            remember(name);
-        }
-    }
-    put_in_order(&page);
-    if (once_in(10))
-        damage(&page);
-    put_number(once_in(10) ? (once_in(2) ? 0 : SLOT_LIMIT + 1) : (int64_t)n);
-    put_node(renaming.node);
-    put_number(renaming.sequence);
-    put_names(&page);
-}
-
-static void long_line(void)
-{
-    long_line_of(false);
-}
-
-static void wide_line(void)
-{
-    long_line_of(true);
-}
-
 /* ---- scripts */
 
-static const struct {
-    const char *kind;
-    void (*make)(void); /* writes what stands after the kind */
-    size_t share;
-} kinds[] = {
-    {"slot", slot_line, 1},     {"byte", byte_line, 1},     {"page", page_line, 1},   {"log", log_line, 1},
-    {"cut", size_line, 1},      {"trim", size_line, 1},     {"find", find_line, 1},   {"insert", insert_line, 5},
-    {"remove", remove_line, 5}, {"add", many_line, 1},      {"drop", many_line, 1},   {"new", new_line, 5},
-    {"rename", rename_line, 15}, {"take", take_line, 25},   {"long", long_line, 2},   {"wide", wide_line, 3},
-};
-
 /* Each kind that is asked for, as often as its share says. */
-static size_t draw[1000], drawn;
+static const LineKind *draw[1000];
+static size_t drawn;
 
-static void ask_for(const char *kind)
+static void ask_for(const LineKind *kinds, size_t count, const char *kind)
 {
-    for (size_t i = 0; i < LENGTH(kinds); i++)
+    for (size_t i = 0; i < count; i++)
         if (strcmp(kinds[i].kind, kind) == 0) {
             for (size_t j = 0; j < kinds[i].share; j++)
-                draw[drawn++] = i;
+                draw[drawn++] = &kinds[i];
             return;
         }
     fprintf(stderr, "lines: there is no kind %s\n", kind);
     exit(EXIT_FAILURE);
 }
 
-static void make_line(void)
+static void make_line(void (*begin)(void))
 {
-    size_t i = draw[random_below(drawn)];
-    choose_numbers();
-    begin_line(kinds[i].kind);
-    kinds[i].make();
+    const LineKind *kind = draw[random_below(drawn)];
+    begin();
+    line_length = 0;
+    put(kind->kind);
+    kind->make();
     put("\n");
 }
 
-static void write_script(const char *directory, int number)
+static void fail(const char *what)
+{
+    perror(what);
+    exit(EXIT_FAILURE);
+}
+
+static void write_script(const char *directory, int number, void (*begin)(void))
 {
     char path[4096];
     int wanted = snprintf(path, sizeof path, "%s/%04d", directory, number);
@@ -765,17 +116,17 @@ static void write_script(const char *directory, int number)
     if (script == NULL)
         fail(path);
     size_t written = 0;
-    make_line();
+    make_line(begin);
     while (written + line_length <= SCRIPT_BYTES) {
         fputs(line, script);
         written += line_length;
-        make_line();
+        make_line(begin);
     }
     if (fclose(script) != 0)
         fail(path);
 }
 
-int main(int argc, char **argv)
+int make_scripts(int argc, char **argv, const LineKind *kinds, size_t count, void (*begin)(void))
 {
     if (argc < 5) {
         fputs("usage: lines DIRECTORY SCRIPTS SEED KIND..\n", stderr);
@@ -783,8 +134,8 @@ int main(int argc, char **argv)
     }
     start_random(strtoull(argv[3], NULL, 10));
     for (int i = 4; i < argc; i++)
-        ask_for(argv[i]);
+        ask_for(kinds, count, argv[i]);
     for (int number = 1; number <= atoi(argv[2]); number++)
-        write_script(argv[1], number);
+        write_script(argv[1], number, begin);
     return EXIT_SUCCESS;
 }

@@ -1,27 +1,11 @@
-/*
- * reference SCRIPT..: writes, for each script of lines, what the program `cases` must write, by the plain C of
- * tests/reference, to SCRIPT.must. The head of crates/cases/src/main.rt says what the lines ask for.
- *
- * Standard output then tells what was met in all: for each kind of line and answer 'KIND ANSWER TIMES', and for each way
- * in which an accepted call renamed a name or took it back 'KIND by TIMES WORDS'.
- */
-#include <inttypes.h>
-#include <stdio.h>
+#include "reference.h"
+
 #include <stdlib.h>
 #include <string.h>
 
-#include "../reference/edits.h"
-#include "../reference/listing.h"
-#include "../reference/renames.h"
+enum { LONGEST_LINE = 16384, COUNTS = 200 };
 
-enum {
-    NAMES = 8, /* the most slots that a line's own names fill, and the slots of its output */
-    MANY = SLOT_LIMIT + 1,
-    LONGEST_LINE = 16384,
-    COUNTS = 200
-};
-
-static FILE *out;
+FILE *out;
 
 static void fail(const char *what)
 {
@@ -49,18 +33,29 @@ static void count(const char *what)
     counts[i].times++;
 }
 
-static void count_answer(const char *kind, int answer)
+void count_answer(const char *kind, int answer)
 {
     char what[80];
     snprintf(what, sizeof what, "%s %d", kind, answer);
     count(what);
 }
 
-static void count_way(const char *kind, const char *by)
+void count_way(const char *kind, const char *by)
 {
     char what[80];
     snprintf(what, sizeof what, "%s by %s", kind, by);
     count(what);
+}
+
+/* 'KIND ANSWER TIMES', or 'KIND by TIMES WORDS' */
+static void print_counts(void)
+{
+    for (size_t i = 0; i < COUNTS && counts[i].times > 0; i++) {
+        const char *what = counts[i].what;
+        size_t two_words = strcspn(what, " ") + 1;
+        two_words += strcspn(what + two_words, " ");
+        printf("%.*s %lu%s\n", (int)two_words, what, counts[i].times, what + two_words);
+    }
 }
 
 /* ---- reading a line */
@@ -68,13 +63,7 @@ static void count_way(const char *kind, const char *by)
 /* What is left of the line; reading goes on from here. */
 static const char *rest;
 
-static bool line_ended(void)
-{
-    return *rest == '\0';
-}
-
-/* The next number, and the byte after it is passed over. */
-static int64_t read_number(void)
+int64_t read_number(void)
 {
     char *end;
     int64_t number = strtoll(rest, &end, 10);
@@ -82,291 +71,30 @@ static int64_t read_number(void)
     return number;
 }
 
-static Tuple read_tuple(void)
+bool passed_over(char byte)
 {
-    Tuple t;
-    t.position = (uint16_t)read_number();
-    t.node = (uint16_t)read_number();
-    t.sequence = (uint32_t)read_number();
-    t.offset = (int32_t)read_number();
-    return t;
+    return rest[-1] == byte;
 }
 
-static Name read_name(void)
+bool line_ended(void)
 {
-    Name name = {0, {{0, 0, 0, 0}}};
-    do
-        name.tuples[name.depth++] = read_tuple();
-    while (rest[-1] == '/' && name.depth < DEPTH_LIMIT);
-    return name;
+    return *rest == '\0';
 }
 
-/* Bytes that are handed to a call. */
-typedef struct {
-    size_t length;
-    uint8_t bytes[MANY * SLOT_BYTES];
-} Bytes;
-
-static void add_slot(Bytes *page, uint32_t line, Name name)
+size_t room_of(int64_t asked, size_t most)
 {
-    Slot slot = {line, name};
-    write_slot(page->bytes + page->length, &slot);
-    page->length += SLOT_BYTES;
+    return (size_t)asked <= most ? (size_t)asked : most;
 }
 
-/* The names up to the end of the line, as the lines 1, 2, .. */
-static Bytes read_names(void)
-{
-    Bytes page = {0, {0}};
-    for (uint32_t line = 1; !line_ended() && line <= NAMES; line++)
-        add_slot(&page, line, read_name());
-    return page;
-}
-
-/* So many names, or those there are, all with this line number. */
-static Bytes read_lines(size_t most, uint32_t line)
-{
-    Bytes page = {0, {0}};
-    for (size_t i = 0; !line_ended() && i < most; i++)
-        add_slot(&page, line, read_name());
-    return page;
-}
-
-static Bytes one_slot(uint32_t line, Name name)
-{
-    Bytes slot = {0, {0}};
-    add_slot(&slot, line, name);
-    return slot;
-}
-
-static Name counted_name(uint32_t sequence)
-{
-    Tuple t = {9, 2, sequence, 0};
-    return row_of(t);
-}
-
-/* n slots (9, 2, 0, 0), (9, 2, 1, 0), .. of line 0 */
-static Bytes many_slots(size_t n)
-{
-    Bytes page = {0, {0}};
-    for (size_t i = 0; i < n; i++)
-        add_slot(&page, 0, counted_name((uint32_t)i));
-    return page;
-}
-
-/* ---- what a line asks for */
-
-static void say(const char *kind, int answer, size_t number)
+void say(const char *kind, int answer, size_t number)
 {
     fprintf(out, ": %d %zu\n", answer, number);
     count_answer(kind, answer);
 }
 
-/* A check, which counts the slots that stand there. */
-static void say_check(const char *kind, int answer, const Bytes *checked)
-{
-    say(kind, answer, answer == ACCEPTED ? checked->length / SLOT_BYTES : 0);
-}
-
-/* The output of a line's call. */
-static Bytes written;
-
-static size_t room_of(int64_t asked, size_t most)
-{
-    return (size_t)asked <= most ? (size_t)asked : most;
-}
-
-static void say_written(const char *kind, Outcome outcome)
-{
-    say(kind, outcome.answer, outcome.count);
-    if (outcome.count > 0)
-        list_page(written.bytes, outcome.count * SLOT_BYTES, out);
-}
-
-static void slot_line(const char *kind)
-{
-    Bytes slot = one_slot(7, read_name());
-    say_check(kind, check_slot(slot.bytes, slot.length), &slot);
-}
-
-static void byte_line(const char *kind)
-{
-    size_t at = (size_t)read_number();
-    uint8_t value = (uint8_t)read_number();
-    Bytes slot = one_slot(7, read_name());
-    if (at < SLOT_BYTES)
-        slot.bytes[at] = value;
-    say_check(kind, check_slot(slot.bytes, slot.length), &slot);
-}
-
-static void page_line(const char *kind)
-{
-    Bytes page = read_names();
-    say_check(kind, check_page(page.bytes, page.length), &page);
-}
-
-static void log_line(const char *kind)
-{
-    uint32_t line = (uint32_t)read_number();
-    Bytes log = read_lines(NAMES, line);
-    say_check(kind, check_log(log.bytes, log.length), &log);
-}
-
-static void cut_line(const char *kind)
-{
-    Bytes page = many_slots(MANY);
-    page.length = room_of(read_number(), page.length);
-    say_check(kind, check_page(page.bytes, page.length), &page);
-}
-
-static void trim_line(const char *kind)
-{
-    Bytes log = many_slots(MANY);
-    log.length = room_of(read_number(), log.length);
-    say_check(kind, check_log(log.bytes, log.length), &log);
-}
-
-/* Asked only of a page that is one: 0 and the slot that has the name, or 1 and how many names are below it. */
-static void find_line(const char *kind)
-{
-    Name name = read_name();
-    Bytes bytes = read_names();
-    Page page;
-    read_page(bytes.bytes, bytes.length, &page);
-    size_t i = 0;
-    while (i < page.count && compare_names(&page.slots[i].name, &name) < 0)
-        i++;
-    bool here = i < page.count && compare_names(&page.slots[i].name, &name) == 0;
-    say(kind, here ? 0 : 1, i);
-}
-
-static void insert_line(const char *kind)
-{
-    size_t room = room_of(read_number(), NAMES * SLOT_BYTES);
-    Bytes slot = one_slot(7, read_name());
-    Bytes page = read_names();
-    say_written(kind, insert_slot(page.bytes, page.length, slot.bytes, slot.length, written.bytes, room));
-}
-
-static void remove_line(const char *kind)
-{
-    size_t room = room_of(read_number(), NAMES * SLOT_BYTES);
-    Bytes slot = one_slot(7, read_name());
-    Bytes page = read_names();
-    say_written(kind, remove_slot(page.bytes, page.length, slot.bytes, slot.length, written.bytes, room));
-}
-
-/* An edit of a page of many slots; what it writes is not shown. */
-static void edit_many(const char *kind, Outcome (*edit)(const uint8_t *, size_t, const uint8_t *, size_t, uint8_t *, size_t))
-{
-    Bytes page = many_slots((size_t)read_number());
-    Bytes slot = one_slot(7, counted_name((uint32_t)read_number()));
-    size_t room = room_of(read_number(), PAGE_BYTES);
-    Outcome outcome = edit(page.bytes, page.length, slot.bytes, slot.length, written.bytes, room);
-    say(kind, outcome.answer, outcome.count);
-}
-
-static void add_line(const char *kind)
-{
-    edit_many(kind, insert_slot);
-}
-
-static void drop_line(const char *kind)
-{
-    edit_many(kind, remove_slot);
-}
-
-static void new_line(const char *kind)
-{
-    size_t gap = (size_t)read_number();
-    uint16_t node = (uint16_t)(read_number() % 65536);
-    Bytes page = read_names();
-    Name name;
-    int answer = new_name(page.bytes, page.length, gap, node, 11, &name);
-    say(kind, answer, 0);
-    if (answer == ACCEPTED) {
-        Bytes made = one_slot(0, name);
-        list_page(made.bytes, made.length, out);
-    }
-}
-
-/* A call that renames a page, or takes it back. */
-typedef Outcome Call(const uint8_t *page, size_t page_length, const uint8_t *log, size_t log_length, uint16_t node,
-                     uint32_t sequence, uint8_t *out, size_t room);
-typedef Renamed CallOfOne(const Renaming *renaming, const Name *name);
-
-static void say_renamed(const char *kind, bool back, const Bytes *page, const Bytes *log, uint16_t node,
-                        uint32_t sequence, size_t room)
-{
-    Call *call = back ? take_page_back : rename_page;
-    CallOfOne *call_of_one = back ? take_name_back : rename_name;
-    Outcome outcome = call(page->bytes, page->length, log->bytes, log->length, node, sequence, written.bytes, room);
-    say_written(kind, outcome);
-    if (outcome.answer != ACCEPTED)
-        return;
-    Page slots;
-    Renaming renaming;
-    read_page(page->bytes, page->length, &slots);
-    read_page(log->bytes, log->length, &renaming.log);
-    renaming.node = node;
-    renaming.sequence = sequence;
-    for (size_t i = 0; i < slots.count; i++)
-        count_way(kind, call_of_one(&renaming, &slots.slots[i].name).by);
-}
-
-static void renamed_line(const char *kind, bool back)
-{
-    size_t room = room_of(read_number(), NAMES * SLOT_BYTES);
-    uint16_t node = (uint16_t)(read_number() % 65536);
-    uint32_t sequence = (uint32_t)read_number();
-    size_t logged = (size_t)read_number();
-    Bytes log = read_lines(logged, 0);
-    Bytes page = read_names();
-    say_renamed(kind, back, &page, &log, node, sequence, room);
-}
-
-static void rename_line(const char *kind)
-{
-    renamed_line(kind, false);
-}
-
-static void take_line(const char *kind)
-{
-    renamed_line(kind, true);
-}
-
-static void many_line(const char *kind, bool back)
-{
-    Bytes log = many_slots((size_t)read_number());
-    uint16_t node = (uint16_t)(read_number() % 65536);
-    uint32_t sequence = (uint32_t)read_number();
-    Bytes page = read_names();
-    say_renamed(kind, back, &page, &log, node, sequence, NAMES * SLOT_BYTES);
-}
-
-static void long_line(const char *kind)
-{
-    many_line(kind, false);
-}
-
-static void wide_line(const char *kind)
-{
-    many_line(kind, true);
-}
-
-static const struct {
-    const char *kind;
-    void (*run)(const char *kind);
-} kinds[] = {
-    {"slot", slot_line},     {"byte", byte_line},     {"page", page_line},     {"log", log_line},
-    {"cut", cut_line},       {"trim", trim_line},     {"find", find_line},     {"insert", insert_line},
-    {"remove", remove_line}, {"add", add_line},       {"drop", drop_line},     {"new", new_line},
-    {"rename", rename_line}, {"take", take_line},     {"long", long_line},     {"wide", wide_line},
-};
-
 /* ---- scripts */
 
-static void run_line(const char *line)
+static void run_line(const char *line, const Kind *kinds, size_t count_of_kinds)
 {
     fputs(line, out);
     if (line[0] == '#') {
@@ -375,7 +103,7 @@ static void run_line(const char *line)
     }
     size_t word = strcspn(line, " ");
     rest = line[word] == '\0' ? line + word : line + word + 1;
-    for (size_t i = 0; i < sizeof kinds / sizeof *kinds; i++)
+    for (size_t i = 0; i < count_of_kinds; i++)
         if (strlen(kinds[i].kind) == word && strncmp(kinds[i].kind, line, word) == 0) {
             kinds[i].run(kinds[i].kind);
             return;
@@ -384,7 +112,7 @@ static void run_line(const char *line)
     exit(EXIT_FAILURE);
 }
 
-static void run_script(const char *path)
+static void run_script(const char *path, const Kind *kinds, size_t count_of_kinds)
 {
     char must[4096], line[LONGEST_LINE];
     int wanted = snprintf(must, sizeof must, "%s.must", path);
@@ -400,7 +128,7 @@ static void run_script(const char *path)
         fail(must);
     while (fgets(line, sizeof line, script) != NULL) {
         line[strcspn(line, "\n")] = '\0';
-        run_line(line);
+        run_line(line, kinds, count_of_kinds);
     }
     if (ferror(script))
         fail(path);
@@ -409,21 +137,10 @@ static void run_script(const char *path)
         fail(must);
 }
 
-/* 'KIND ANSWER TIMES', or 'KIND by TIMES WORDS' */
-static void print_counts(void)
-{
-    for (size_t i = 0; i < COUNTS && counts[i].times > 0; i++) {
-        const char *what = counts[i].what;
-        size_t two_words = strcspn(what, " ") + 1;
-        two_words += strcspn(what + two_words, " ");
-        printf("%.*s %lu%s\n", (int)two_words, what, counts[i].times, what + two_words);
-    }
-}
-
-int main(int argc, char **argv)
+int run_scripts(int argc, char **argv, const Kind *kinds, size_t count_of_kinds)
 {
     for (int i = 1; i < argc; i++)
-        run_script(argv[i]);
+        run_script(argv[i], kinds, count_of_kinds);
     print_counts();
     if (fflush(stdout) != 0)
         fail("stdout");
