@@ -1,0 +1,50 @@
+-- `epoch_cases::asked::changed` meets its contract. Assumes nothing.
+use Prim.Native.Nat.{_-_, _≤_}
+use borrow.Author.Needs.{needs}
+use Rattle.epoch_cases.proofs.asked.changed.Statement.{statement}
+use Rattle.epoch_cases.proofs.asked.changed.Tie as tie
+
+abbrev Inv-loop : tie.InvT-loop
+Inv-loop out from n₀ i₀ n i = n ≤ i
+
+abbrev μ-loop : tie.MeasureT-loop
+μ-loop out from n₀ i₀ n i = 272 - i
+
+loop-holds : tie.Need-loop-holds Inv-loop μ-loop
+loop-holds c = search needs
+
+element-copy-out-differs : tie.Need-element-copy-out-differs Inv-loop μ-loop
+element-copy-out-differs c = search needs
+
+differs-requires : tie.Need-differs-requires Inv-loop μ-loop
+differs-requires c κs = search needs
+
+add-n : tie.Need-add-n Inv-loop μ-loop
+add-n c = search needs
+
+add-i : tie.Need-add-i Inv-loop μ-loop
+add-i c = search needs
+
+loop-less : tie.Need-loop-less Inv-loop μ-loop
+loop-less c = search needs
+
+loop-again : tie.Need-loop-again Inv-loop μ-loop
+loop-again c = search needs
+
+returns : tie.Need-returns Inv-loop μ-loop
+returns c = search needs
+
+pub changed-spec : {M : Type 1} → statement M
+changed-spec =
+    tie.close
+    (tie.spec
+    Inv-loop
+    μ-loop
+    loop-holds
+    element-copy-out-differs
+    differs-requires
+    add-n
+    add-i
+    loop-less
+    loop-again
+    returns)
