@@ -1,0 +1,4 @@
+pub mod Fields
+pub mod Facts
+pub mod ReadBack
+pub mod WriteBack

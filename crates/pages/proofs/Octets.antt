@@ -23,16 +23,16 @@ use Rattle.pages.proofs.RoundTrip.{flat, flat-none}
 -- ── rows of bytes ──
 
 -- each element is a byte, as `Octets` has it by index
-data AllBytes : Bytes → Type 0 where
+pub data AllBytes : Bytes → Type 0 where
   nil : AllBytes []
   byte : {s : Bytes} (x : ℕ) → x < 256 → AllBytes s → AllBytes (x ∷ s)
 
-all-octets : {s : Bytes} → AllBytes s → Octets s
+pub all-octets : {s : Bytes} → AllBytes s → Octets s
 all-octets nil i = omega arith
 all-octets (byte x h k) zero = h
 all-octets (byte x h k) (suc i) = all-octets k i
 
-join : {s t : Bytes} → AllBytes s → AllBytes t → AllBytes (s ++ t)
+pub join : {s t : Bytes} → AllBytes s → AllBytes t → AllBytes (s ++ t)
 join nil j = j
 join (byte x h k) j = byte x h (join k j)
 
@@ -40,10 +40,10 @@ zeros : (n : ℕ) → AllBytes (replicate n 0)
 zeros zero = nil
 zeros (suc n) = byte 0 (omega arith) (zeros n)
 
-two : (v : ℕ) → v < 65536 → AllBytes (bytes16 v)
+pub two : (v : ℕ) → v < 65536 → AllBytes (bytes16 v)
 two v h = byte (v / 256) (omega arith) (byte (v % 256) (omega arith) nil)
 
-four : (v : ℕ) → v < 4294967296 → AllBytes (bytes32 v)
+pub four : (v : ℕ) → v < 4294967296 → AllBytes (bytes32 v)
 four v h = join (two (v / 65536) (omega arith)) (two (v % 65536) (omega arith))
 
 -- ── names ──
@@ -75,6 +75,9 @@ row-all : {a : Row} → Ends a → Words a → AllBytes (rowBytes a)
 row-all (final o h) (more w ws) = join (tuple-all (ordinary-small o) w) nil
 row-all (onward b e) (more w ws) = join (tuple-all (middle-small b) w) (row-all e ws)
 
+pub name-all : (a : Row) → isName a ≡ true → AllBytes (rowBytes a)
+name-all a e = row-all (valid-ends (name-valid a e)) (name-words a e)
+
 -- ── slots ──
 
 slot-all : (x : Slot) → isSlot x ≡ true → AllBytes (slotBytes x)
@@ -87,7 +90,7 @@ slot-all x e =
     let h = leb-true (x .line) 4294967295 (and-0 a b f) in
     let d = leb-true (length (x .name)) limit (and-1 (a && b) (fits (x .name)) e) in
     let front : AllBytes (length (x .name) ∷ 0 ∷ 0 ∷ 0 ∷ []) = byte (length (x .name)) (omega arith) (zeros 3) in
-    join (join (join front (four (x .line) (omega arith))) (row-all (valid-ends (name-valid (x .name) n)) (name-words (x .name) n))) (zeros (tupleSize * (limit - length (x .name))))
+    join (join (join front (four (x .line) (omega arith))) (name-all (x .name) n)) (zeros (tupleSize * (limit - length (x .name))))
 
 written-all : (l : List Slot) → every isSlot l ≡ true → AllBytes (flatten (pieces l))
 written-all [] e = rw flat-none nil

@@ -46,7 +46,7 @@ unsigned-signed n h = elim (decLt n 2147483648) [
 ]
 
 -- two parts that stand next to each other
-next-to : {A : Type 0} (s : List A) (p m n : ℕ) → take m (drop p s) ++ take n (drop (p + m) s) ≡ take (m + n) (drop p s)
+pub next-to : {A : Type 0} (s : List A) (p m n : ℕ) → take m (drop p s) ++ take n (drop (p + m) s) ≡ take (m + n) (drop p s)
 next-to s p m n = ap (λ (l : List _). take m (drop p s) ++ take n l) (sym (drop-drop m p s)) ∙ sym (take-add m n (drop p s))
 
 front-length : (x : Slot) → length (((length (x .name) ∷ 0 ∷ 0 ∷ 0 ∷ []) ++ bytes32 (x .line)) ++ rowBytes (x .name)) ≡ headSize + tupleSize * length (x .name)
@@ -61,7 +61,7 @@ slot-length x f =
     length-append (((length (x .name) ∷ 0 ∷ 0 ∷ 0 ∷ []) ++ bytes32 (x .line)) ++ rowBytes (x .name)) (replicate (tupleSize * (limit - length (x .name))) 0) ∙ omega arith
 
 module _ (s : Bytes) (k : Octets s) where
-  here16 : (p : ℕ) → p + 2 ≤ length s → bytes16 (at16 s p) ≡ take 2 (drop p s)
+  pub here16 : (p : ℕ) → p + 2 ≤ length s → bytes16 (at16 s p) ≡ take 2 (drop p s)
   here16 p h =
       let a : p < length s = omega arith in
       let b : suc p < length s = omega arith in
@@ -69,7 +69,7 @@ module _ (s : Bytes) (k : Octets s) where
       (λ i. high16 (getD s p 0) (getD s (p + 1) 0) (k (p + 1)) i ∷ low16 (getD s p 0) (getD s (p + 1) 0) (k (p + 1)) i ∷ [])
       ∙ rw (e, drop-cons s p 0 a, drop-cons s (suc p) 0 b)
 
-  here32 : (p : ℕ) → p + 4 ≤ length s → bytes32 (at32 s p) ≡ take 4 (drop p s)
+  pub here32 : (p : ℕ) → p + 4 ≤ length s → bytes32 (at32 s p) ≡ take 4 (drop p s)
   here32 p h =
       (λ i. bytes16 (high32 (at16 s p) (at16 s (p + 2)) (fits16 s (p + 2) k) i) ++ bytes16 (low32 (at16 s p) (at16 s (p + 2)) (fits16 s (p + 2) k) i))
       ∙ (λ i. here16 p (omega arith) i ++ here16 (p + 2) (omega arith) i)
@@ -213,7 +213,7 @@ two v = omega arith
 four : (v : ℕ) → v / 65536 * 65536 + v % 65536 ≡ v
 four v = omega arith
 
-back32 : (v : ℕ) (r : Bytes) → at32 (bytes32 v ++ r) 0 ≡ v
+pub back32 : (v : ℕ) (r : Bytes) → at32 (bytes32 v ++ r) 0 ≡ v
 back32 v r = (λ i. two (v / 65536) i * 65536 + two (v % 65536) i) ∙ four v
 
 tuple-back : (t : Tuple) (r : Bytes) → Word (t .offset) → tupleAt (tupleBytes t ++ r) 0 ≡ t
