@@ -2,3 +2,4 @@ pub mod Fields
 pub mod Facts
 pub mod ReadBack
 pub mod WriteBack
+pub mod Calls
