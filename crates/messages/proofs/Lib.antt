@@ -3,3 +3,5 @@ pub mod Facts
 pub mod ReadBack
 pub mod WriteBack
 pub mod Calls
+pub mod Longest
+pub mod Octets
