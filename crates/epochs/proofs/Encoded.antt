@@ -10,9 +10,10 @@ use native.Mathlib.Omega.{arith}
 use borrow.Author.Tests.{eqb-true, eq-eqb}
 use lib.Dec.{eqb}
 use lib.ListN.{length, take, drop, getD, length-append, length-take, length-drop, length-map, take-append-drop}
-use lib.Seq.{getD-take, getD-drop, take-at, drop-at, ext-getD}
+use lib.Seq.{getD-take, take-at, drop-at, ext-getD}
 use Rattle.names.proofs.Laws.{and-0, and-1}
 use Rattle.slots.specs.Bytes.{Bytes, Octets, at16}
+use Rattle.slots.proofs.Numbers.{two-on, four-on}
 use Rattle.pages.proofs.RoundTrip.{octets-take, octets-drop, flat, flat-none, flat-append}
 use Rattle.epochs.specs.Tables.{Entry, entrySize, zeroEntry, entryAt, entryIn, entryOf, entryParts, entriesOf, entryBytes, entryPieces, isTable, keepsTable, added}
 use Rattle.epochs.proofs.Facts.{table}
@@ -99,16 +100,9 @@ length-parts (suc n) s = ap suc (length-parts n (drop entrySize s))
 pub length-entries : (s : Bytes) → length (entriesOf s) ≡ length s / entrySize
 length-entries s = length-map (entryParts (length s / entrySize) s) entryOf ∙ length-parts (length s / entrySize) s
 
--- what stands n bytes further on
-module _ (n : ℕ) (s : Bytes) where
-  byte-on : (p q : ℕ) → q ≡ n + p → getD (drop n s) p 0 ≡ getD s q 0
-  byte-on p q e = getD-drop n s p 0 ∙ ap (λ (i : ℕ). getD s i 0) (sym e)
-
-  two-on : (p q : ℕ) → q ≡ n + p → at16 (drop n s) p ≡ at16 s q
-  two-on p q e = λ i. byte-on p q e i * 256 + byte-on (p + 1) (q + 1) (omega arith) i
-
-  entry-on : (p q : ℕ) → q ≡ n + p → entryIn (drop n s) p ≡ entryIn s q
-  entry-on p q e = entry-≡ (two-on p q e) (λ i. two-on (p + 2) (q + 2) (omega arith) i * 65536 + two-on (p + 2 + 2) (q + 2 + 2) (omega arith) i) (two-on (p + 6) (q + 6) (omega arith))
+-- the entry that stands n bytes further on
+entry-on : (n : ℕ) (s : Bytes) (p q : ℕ) → q ≡ n + p → entryIn (drop n s) p ≡ entryIn s q
+entry-on n s p q e = entry-≡ (two-on n s p q e) (four-on n s (p + 2) (q + 2) (omega arith)) (two-on n s (p + 6) (q + 6) (omega arith))
 
 entry-taken : (s : Bytes) → entryOf (take entrySize s) ≡ entryOf s
 entry-taken s = entry-≡ (two 0 (omega arith)) (λ i. two 2 (omega arith) i * 65536 + two 4 (omega arith) i) (two 6 (omega arith))

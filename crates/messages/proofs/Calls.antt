@@ -1,18 +1,17 @@
 -- Reading and writing a message, as calls: what is written is read back, the numbers and the given slots byte for byte (`read-written`,
 -- `numbers-written`), and what is read, written again, is the message byte for byte (`write-read`). Assumes nothing.
 use mathlib.Core.Path.{_≡_, refl, sym, ap, _∙_}
-use mathlib.Core.List.{List, [], _∷_, _++_, map, flatten}
+use mathlib.Core.List.{List, [], _∷_, map, flatten}
 use mathlib.Core.Bool.{Bool, true, false, cond, _&&_}
-use Prim.Native.Nat.{ℕ, zero, suc, _≤_}
+use Prim.Native.Nat.{ℕ, _≤_}
 use native.Mathlib.Omega.{arith}
 use borrow.Author.Tests.{eqb-true}
-use lib.Dec.{leb, eqb}
+use lib.Dec.{eqb}
 use lib.ListN.{length, length-map}
 use Rattle.names.specs.Ordering.{Row}
-use Rattle.names.specs.Names.{fits, isName}
 use Rattle.names.proofs.Laws.{and-0, and-1}
 use Rattle.slots.specs.Bytes.{Bytes, Octets, every}
-use Rattle.slots.specs.Slots.{Slot, slotBytes, isSlot}
+use Rattle.slots.specs.Slots.{Slot, isSlot}
 use Rattle.pages.specs.declared.Refusal.{Refusal}
 use Rattle.pages.specs.declared.Refusal.the-variants.{Malformed}
 use Rattle.pages.specs.declared.Answer.the-variants.{Accepted}
@@ -149,6 +148,10 @@ module _ (s : Bytes) (room n : ℕ) (h : reading s room .answer ≡ Accepted n) 
       encoded-layout (map bare (namesIn s)) good-slots few-slots i
       && (ap isMessage parts-again ∙ parts-message s (found .0)) i
       && (ap (every lineIsZero) again ∙ bare-zero (namesIn s)) i
+
+  -- the numbers and slots that reading gives may be written
+  pub may-again : mayWrite (numbersRead s room) (reading s room .bytes) ≡ true
+  may-again = ap (λ (o : Outcome). mayWrite (givenBy (o .answer) (numbersIn s)) (o .bytes)) read-is ∙ may
 
   pub write-read : Octets s → (room' : ℕ) → length s ≤ room' → writing (numbersRead s room) (reading s room .bytes) room' ≡ record { answer = Accepted (length s); bytes = s }
   unfolding writing

@@ -1,7 +1,9 @@
 pub mod Fields
+pub mod Walk
 pub mod Facts
 pub mod ReadBack
 pub mod WriteBack
-pub mod Calls
-pub mod Longest
 pub mod Octets
+pub mod Longest
+pub mod Calls
+pub mod Logs

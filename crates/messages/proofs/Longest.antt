@@ -1,27 +1,27 @@
 -- "The longest is 25,366 bytes": no message is longer (`no-longer`), and a rename of 256 names of eight tuples is as long (`full-message`,
 -- `full-length`). Assumes nothing.
-use mathlib.Core.Path.{_≡_, refl, sym, ap, _∙_}
-use mathlib.Core.List.{List, [], _∷_, _++_, map, flatten}
+use mathlib.Core.Path.{_≡_, refl, ap, _∙_}
+use mathlib.Core.List.{List, [], _∷_, map, flatten}
 use mathlib.Core.Bool.{Bool, true, false, cond, _&&_}
 use Prim.Native.Nat.{ℕ, zero, suc, _+_, _*_, _<_, _≤_}
 use native.Mathlib.Omega.{arith}
 use borrow.Author.Tests.{le-leb, leb-true, eqb-true}
-use lib.Dec.{leb, eqb}
+use lib.Dec.{eqb}
 use lib.IntN.{pos}
 use lib.ListN.{length, length-append}
 use Rattle.names.specs.declared.Tuple.{Tuple}
-use Rattle.names.specs.Ordering.{Row, rising, Rising, none, one, more, sequence, differ}
+use Rattle.names.specs.Ordering.{Row, Rising, none, one, more, sequence, differ}
 use Rattle.names.specs.Names.{limit, fits, isName, endsWell, ordinaryFrom}
 use Rattle.names.proofs.Laws.{and-0, and-1, Rising-rising}
-use Rattle.slots.specs.Bytes.{Bytes, bytes32, tupleSize, rowBytes, every}
+use Rattle.slots.specs.Bytes.{bytes32, tupleSize, rowBytes, every}
 use Rattle.slots.proofs.Written.{row-length}
 use Rattle.pages.specs.Pages.{maxSlots}
 use Rattle.pages.proofs.RoundTrip.{flat, flat-none}
 use Rattle.messages.specs.Fields.{fieldHead, fieldBytes}
-use Rattle.messages.specs.Messages.{insert, rename, nameTag, lineTag, lineSize, Parts, nameFits, mostNames, isMessage, nameField, lineFields, messageBytes, namesPlace, longest}
+use Rattle.messages.specs.Messages.{insert, rename, nameTag, lineTag, lineSize, Parts, nameFits, isMessage, nameField, lineFields, messageBytes, namesPlace, longest}
 use Rattle.messages.proofs.Fields.{field-length}
 use Rattle.messages.proofs.Facts.{Good, good}
-use Rattle.messages.proofs.ReadBack.{tail, split}
+use Rattle.messages.proofs.ReadBack.{split}
 
 pub longest-is : longest ≡ 25366
 longest-is = refl

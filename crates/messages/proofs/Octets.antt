@@ -1,8 +1,8 @@
 -- What is written is bytes: `written-octets`, of a message's parts. Assumes nothing.
-use mathlib.Core.Path.{_≡_, refl}
-use mathlib.Core.List.{List, [], _∷_, _++_, map, flatten}
+use mathlib.Core.Path.{_≡_}
+use mathlib.Core.List.{List, [], _∷_, map, flatten}
 use mathlib.Core.Bool.{Bool, true, false, cond, _&&_, _||_}
-use Prim.Native.Nat.{ℕ, _*_, _<_, _≤_}
+use Prim.Native.Nat.{ℕ, _<_, _≤_}
 use native.Mathlib.Omega.{arith}
 use borrow.Author.Tests.{leb-true}
 use lib.Dec.{leb, eqb}
@@ -11,12 +11,12 @@ use Rattle.names.specs.declared.Author.{Author}
 use Rattle.names.specs.Ordering.{Row}
 use Rattle.names.specs.Names.{limit, fits, within, isName}
 use Rattle.names.proofs.Laws.{and-0, and-1}
-use Rattle.slots.specs.Bytes.{Bytes, Octets, bytes32, tupleSize, rowBytes, every}
+use Rattle.slots.specs.Bytes.{Bytes, Octets, bytes32, rowBytes, every}
 use Rattle.slots.proofs.Written.{row-length}
 use Rattle.pages.proofs.RoundTrip.{flat, flat-none}
 use Rattle.pages.proofs.Octets.{AllBytes, nil, byte, all-octets, join, two, four, name-all}
 use Rattle.messages.specs.Fields.{fieldBytes}
-use Rattle.messages.specs.Messages.{insert, rename, kindTag, epochTag, authorTag, nameTag, lineTag, Parts, nameFits, isKind, isEpoch, isAuthor, isLine, isMessage, pairBytes, nameField, lineFields, messageBytes}
+use Rattle.messages.specs.Messages.{insert, rename, kindTag, epochTag, authorTag, nameTag, lineTag, Parts, nameFits, isMessage, pairBytes, nameField, lineFields, messageBytes}
 use Rattle.messages.proofs.Facts.{Good, good}
 use Rattle.messages.proofs.ReadBack.{split}
 

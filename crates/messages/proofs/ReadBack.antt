@@ -3,11 +3,11 @@
 use mathlib.Core.Path.{_≡_, refl, sym, ap, _∙_}
 use mathlib.Core.List.{List, [], _∷_, _++_, map, flatten, append-assoc}
 use mathlib.Core.Bool.{Bool, true, false, cond, _&&_, _||_}
-use Prim.Native.Nat.{ℕ, zero, suc, _+_, _*_, _/_, _%_, _<_, _≤_}
+use Prim.Native.Nat.{ℕ, zero, suc, _+_, _*_, _/_, _%_, _≤_}
 use native.Mathlib.Omega.{arith}
 use borrow.Author.Tests.{eq-eqb, eqb-true}
 use lib.Dec.{leb, eqb}
-use lib.ListN.{length, drop}
+use lib.ListN.{length}
 use Rattle.names.specs.declared.Author.{Author}
 use Rattle.names.specs.Ordering.{Row}
 use Rattle.names.specs.Names.{fits, isName}
@@ -17,8 +17,9 @@ use Rattle.slots.proofs.Written.{row-length}
 use Rattle.slots.proofs.RoundTrip.{back32, row-back, name-words}
 use Rattle.pages.proofs.RoundTrip.{flat, flat-none, flat-append}
 use Rattle.messages.specs.Fields.{fieldHead, sizeIn, afterField, stands, fieldBytes}
-use Rattle.messages.specs.Messages.{insert, kindTag, epochTag, authorTag, nameTag, lineTag, kindSize, pairSize, lineSize, Parts, nameFits, mostNames, isLine, isMessage, pairBytes, nameField, lineFields, messageBytes, epochPlace, authorPlace, pairIn, nameStands, tuplesIn, namesWithin, afterNames, kindIn, restIn, partsIn, endsAs, framed, keepsMessage}
+use Rattle.messages.specs.Messages.{insert, kindTag, epochTag, authorTag, nameTag, lineTag, kindSize, pairSize, lineSize, Parts, nameFits, mostNames, isMessage, pairBytes, nameField, lineFields, messageBytes, pairIn, nameStands, tuplesIn, namesWithin, afterNames, partsIn, endsAs, framed, keepsMessage}
 use Rattle.messages.proofs.Fields.{size-back, after-back, stands-back}
+use Rattle.messages.proofs.Walk.{names-turn, after-turn, names-stop, after-stop}
 use Rattle.messages.proofs.Facts.{Good, good}
 
 -- ── the names ──
@@ -36,21 +37,13 @@ module _ (a : Row) (r : Bytes) where
       ap (tuplesAt (nameField a ++ r) fieldHead) n ∙ row-back (nameTag ∷ bytes16 (length (rowBytes a))) a r (name-words a h)
 
   names-on : (most : ℕ) → isName a ≡ true → namesWithin (suc most) (nameField a ++ r) ≡ a ∷ namesWithin most r
-  names-on most h = λ i. cond (name-stands i) (tuples-back h i ∷ namesWithin most (after-back nameTag (rowBytes a) r i)) []
+  names-on most h = names-turn (nameField a ++ r) most name-stands ∙ (λ i. tuples-back h i ∷ namesWithin most (after-back nameTag (rowBytes a) r i))
 
   after-on : (most : ℕ) → afterNames (suc most) (nameField a ++ r) ≡ afterNames most r
-  after-on most = λ i. cond (name-stands i) (afterNames most (after-back nameTag (rowBytes a) r i)) (nameField a ++ r)
+  after-on most = after-turn (nameField a ++ r) most name-stands ∙ ap (afterNames most) (after-back nameTag (rowBytes a) r)
 
 -- the fields of names, and then r, where no name stands
 module _ (r : Bytes) (e : nameStands r ≡ false) where
-  names-end : (most : ℕ) → namesWithin most r ≡ []
-  names-end zero = refl
-  names-end (suc most) = ap (λ (b : Bool). cond b (tuplesIn r ∷ namesWithin most (afterField r)) []) e
-
-  after-end : (most : ℕ) → afterNames most r ≡ r
-  after-end zero = refl
-  after-end (suc most) = ap (λ (b : Bool). cond b (afterNames most (afterField r)) r) e
-
   none : flatten {A = ℕ} [] ++ r ≡ r
   none = ap (λ (l : Bytes). l ++ r) flat-none
 
@@ -58,7 +51,7 @@ module _ (r : Bytes) (e : nameStands r ≡ false) where
   cons a l = ap (λ (x : Bytes). x ++ r) (flat (nameField a) (map nameField l)) ∙ append-assoc (nameField a) (flatten (map nameField l)) r
 
   pub names-back : (l : List Row) (most : ℕ) → every nameFits l ≡ true → length l ≤ most → namesWithin most (flatten (map nameField l) ++ r) ≡ l
-  names-back [] most h f = ap (namesWithin most) none ∙ names-end most
+  names-back [] most h f = ap (namesWithin most) none ∙ names-stop r e most
   names-back (a ∷ l) zero h f = absurd (omega arith)
   names-back (a ∷ l) (suc most) h f =
       ap (namesWithin (suc most)) (cons a l)
@@ -66,7 +59,7 @@ module _ (r : Bytes) (e : nameStands r ≡ false) where
       ∙ ap (λ (x : List Row). a ∷ x) (names-back l most (and-1 (nameFits a) (every nameFits l) h) (omega arith))
 
   pub rest-back : (l : List Row) (most : ℕ) → length l ≤ most → afterNames most (flatten (map nameField l) ++ r) ≡ r
-  rest-back [] most f = ap (afterNames most) none ∙ after-end most
+  rest-back [] most f = ap (afterNames most) none ∙ after-stop r e most
   rest-back (a ∷ l) zero f = absurd (omega arith)
   rest-back (a ∷ l) (suc most) f = ap (afterNames (suc most)) (cons a l) ∙ after-on a (flatten (map nameField l) ++ r) most ∙ rest-back l most (omega arith)
 

@@ -1,7 +1,7 @@
 -- Write after read: a message is the writing of what it says (`bytes-back`), whose parts may be written (Facts: `parts-message`). So "a
 -- message has one writing" (`one-writing`). Assumes nothing.
 use mathlib.Core.Path.{_≡_, refl, sym, ap, _∙_}
-use mathlib.Core.List.{List, [], _∷_, _++_, map, flatten, append-assoc, append-nil}
+use mathlib.Core.List.{[], _∷_, _++_, map, flatten, append-assoc, append-nil}
 use mathlib.Core.Bool.{Bool, true, false, cond, _&&_}
 use Prim.Native.Nat.{ℕ, zero, suc, _+_, _*_, _/_, _%_, _<_, _≤_}
 use native.Mathlib.Omega.{arith}
@@ -9,15 +9,14 @@ use borrow.Author.Tests.{eqb-true}
 use lib.Dec.{eqb}
 use lib.ListN.{length, take, drop, length-drop, drop-of-length-le}
 use lib.Seq.{drop-cons, drop-drop}
-use Rattle.names.specs.Ordering.{Row}
 use Rattle.names.proofs.Laws.{and-0, and-1}
 use Rattle.slots.specs.Bytes.{Bytes, Octets, at32, bytes32, tupleSize, rowBytes}
 use Rattle.slots.proofs.RoundTrip.{next-to, here16, here32, here-row}
 use Rattle.pages.proofs.RoundTrip.{octets-drop, flat, flat-none}
 use Rattle.messages.specs.Fields.{fieldHead, sizeIn, afterField, stands, fieldBytes}
-use Rattle.messages.specs.Messages.{insert, kindTag, epochTag, authorTag, nameTag, lineTag, kindSize, pairSize, lineSize, mostNames, pairBytes, nameField, lineFields, messageBytes, epochPlace, authorPlace, namesPlace, pairIn, kindIn, nameStands, tuplesIn, namesWithin, afterNames, restIn, lineIn, partsIn, nothing, keepsMessage}
+use Rattle.messages.specs.Messages.{insert, kindTag, epochTag, authorTag, nameTag, lineTag, kindSize, pairSize, lineSize, mostNames, pairBytes, nameField, messageBytes, epochPlace, authorPlace, namesPlace, pairIn, kindIn, nameStands, tuplesIn, namesWithin, afterNames, restIn, partsIn, nothing, keepsMessage}
 use Rattle.messages.proofs.Fields.{Standing, standing, field-there}
-use Rattle.messages.proofs.Facts.{Framed, frame}
+use Rattle.messages.proofs.Facts.{frame}
 use Rattle.messages.proofs.ReadBack.{tail, split}
 
 is-nothing : (s : Bytes) → nothing s ≡ true → s ≡ []

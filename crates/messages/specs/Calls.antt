@@ -1,6 +1,6 @@
 -- Reading and writing a message: document 01, "What comes back". "read message 15, 8; write message 15, 8".
 use Prim.Native.Nat.{ℕ}
-use mathlib.Core.List.{List, [], _∷_, map}
+use mathlib.Core.List.{[], _∷_, map}
 use mathlib.Core.Bool.{Bool, _&&_}
 use Rattle.names.specs.Ordering.{Row}
 use Rattle.slots.specs.Bytes.{Bytes, every}

@@ -79,7 +79,7 @@ abbrev pub isLine : ℕ → ℕ → Bool
 isLine kind line = leb line 4294967295 && (eqb kind insert || eqb line 0)
 
 -- "15 for any parts that reading can't give: a bad kind, epoch, author or name, a wrong number of names, names of a rename not rising,
--- .. a line number other than 0 where the kind isn't insert". Of an insert or remove it may be asked too that the names rise: one name does.
+-- .. a line number other than 0 where the kind isn't insert". That the names rise is asked of every kind: one name by itself does.
 unfoldable pub isMessage : Parts → Bool
 isMessage p =
     isKind (p .numbers .kind) && isEpoch (p .numbers .epoch) && isAuthor (p .numbers .author) && every nameFits (p .names)

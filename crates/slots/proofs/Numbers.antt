@@ -1,9 +1,12 @@
--- Numbers out of bytes: bounds, and the number of four bytes read from the lowest and turned round. Assumes nothing.
-use mathlib.Core.Path.{_≡_, _∙_}
+-- Numbers out of bytes: bounds, numbers that stand some bytes further on, and the number of four bytes read from the lowest and turned
+-- round. Assumes nothing.
+use mathlib.Core.Path.{_≡_, _∙_, sym, ap}
 use Prim.Native.Nat.{ℕ, _+_, _*_, _-_, _/_, _%_, _<_, _≤_}
 use native.Mathlib.Omega.{arith}
 use borrow.Author.Tests.{lt-ltb, le-ltb}
 use lib.IntN.{pos, negsuc}
+use lib.ListN.{drop, getD}
+use lib.Seq.{getD-drop}
 use Rattle.slots.specs.Bytes.{Bytes, Octets, at16, at32, signed}
 
 pub fits16 : (s : Bytes) (p : ℕ) → Octets s → at16 s p < 65536
@@ -11,6 +14,17 @@ fits16 s p k = omega (arith, k p, k (p + 1))
 
 pub fits32 : (s : Bytes) (p : ℕ) → Octets s → at32 s p < 4294967296
 fits32 s p k = omega (arith, fits16 s p k, fits16 s (p + 2) k)
+
+-- what stands n bytes further on
+module _ (n : ℕ) (s : Bytes) where
+  pub byte-on : (p q : ℕ) → q ≡ n + p → getD (drop n s) p 0 ≡ getD s q 0
+  byte-on p q e = getD-drop n s p 0 ∙ ap (λ (i : ℕ). getD s i 0) (sym e)
+
+  pub two-on : (p q : ℕ) → q ≡ n + p → at16 (drop n s) p ≡ at16 s q
+  two-on p q e = λ i. byte-on p q e i * 256 + byte-on (p + 1) (q + 1) (omega arith) i
+
+  pub four-on : (p q : ℕ) → q ≡ n + p → at32 (drop n s) p ≡ at32 s q
+  four-on p q e = λ i. two-on p q e i * 65536 + two-on (p + 2) (q + 2) (omega arith) i
 
 pub signed-pos : (a : ℕ) → a < 2147483648 → signed a ≡ pos a
 signed-pos a h = simp (lt-ltb a 2147483648 h)

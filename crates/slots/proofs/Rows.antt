@@ -5,11 +5,12 @@ use Prim.Native.Nat.{ℕ, zero, suc, _+_, _*_, _<_, _≤_}
 use native.Mathlib.Nat.{le-of-suc-le-suc, not-suc-le-zero}
 use native.Mathlib.Omega.{arith}
 use borrow.Author.Count.{below-more}
-use lib.ListN.{length, getD, set, take}
+use lib.ListN.{length, getD, set, take, drop}
 use lib.Seq.{getD-set-same, getD-set-other, getD-take, length-take-le, ext-getD}
 use Rattle.names.specs.Ordering.{Row}
 use Rattle.names.specs.Names.{m}
-use Rattle.slots.specs.Bytes.{Bytes, tupleAt, tuplesAt, tupleSize}
+use Rattle.slots.specs.Bytes.{Bytes, signed, tupleAt, tuplesAt, tupleSize}
+use Rattle.slots.proofs.Numbers.{two-on, four-on}
 
 pub length-tuplesAt : (s : Bytes) (p n : ℕ) → length (tuplesAt s p n) ≡ n
 length-tuplesAt s p zero = refl
@@ -24,6 +25,21 @@ pub take-tuplesAt : (s : Bytes) (p n k : ℕ) → k ≤ n → take k (tuplesAt s
 take-tuplesAt s p n zero h = refl
 take-tuplesAt s p zero (suc k) h = absurd (not-suc-le-zero h)
 take-tuplesAt s p (suc n) (suc k) h = ap (λ (l : Row). tupleAt s p ∷ l) (take-tuplesAt s (p + tupleSize) n k (le-of-suc-le-suc h))
+
+-- tuples that stand d bytes further on
+module _ (d : ℕ) (s : Bytes) where
+  tuple-on : (p q : ℕ) → q ≡ d + p → tupleAt (drop d s) p ≡ tupleAt s q
+  unfolding tupleAt
+  tuple-on p q e = λ i. record {
+    position = two-on d s p q e i;
+    node = two-on d s (p + 2) (q + 2) (omega arith) i;
+    sequence = four-on d s (p + 4) (q + 4) (omega arith) i;
+    offset = signed (four-on d s (p + 8) (q + 8) (omega arith) i);
+  }
+
+  pub tuples-on : (p q n : ℕ) → q ≡ d + p → tuplesAt (drop d s) p n ≡ tuplesAt s q n
+  tuples-on p q zero e = refl
+  tuples-on p q (suc n) e = λ i. tuple-on p q e i ∷ tuples-on (p + tupleSize) (q + tupleSize) n (omega arith) i
 
 -- an array filled from the front: what holds below k holds below k + 1 after a store at k
 pub filled-more : {A : Type 0} (d : A) (P : ℕ → A) (l : List A) (k : ℕ) (v : A) → k < length l → ((j : ℕ) → j < k → getD l j d ≡ P j) → v ≡ P k → (j : ℕ) → j < k + 1 → getD (set l k v) j d ≡ P j

@@ -17,7 +17,7 @@ use Rattle.slots.proofs.Numbers.{fits16, fits32, signed-pos, signed-neg
 
 -- ── ordinary tuples ──
 
-leb-by : (a b c d : ℕ) → (a ≤ b → c ≤ d) → (c ≤ d → a ≤ b) → leb a b ≡ leb c d
+pub leb-by : (a b c d : ℕ) → (a ≤ b → c ≤ d) → (c ≤ d → a ≤ b) → leb a b ≡ leb c d
 leb-by a b c d f g = elim (decLe a b) [
   | yes h ↦ le-leb a b h ∙ sym (le-leb c d (f h))
   | no h ↦ lt-leb a b (omega arith) ∙ sym (elim (decLe c d) [ yes k ↦ absurd (let w = g k in omega arith) | no k ↦ lt-leb c d (omega arith) ])
