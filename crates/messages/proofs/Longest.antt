@@ -1,5 +1,5 @@
--- "The longest is 25,366 bytes": no message is longer (`no-longer`), and a rename of 256 names of eight tuples is as long (`full-message`,
--- `full-length`). Assumes nothing.
+-- "The longest is 25,366 bytes": no message is longer, written (`no-longer`) or read (`no-longer-read`), and a rename of 256 names of eight
+-- tuples is as long (`full-message`, `full-length`). Assumes nothing.
 use mathlib.Core.Path.{_≡_, refl, ap, _∙_}
 use mathlib.Core.List.{List, [], _∷_, map, flatten}
 use mathlib.Core.Bool.{Bool, true, false, cond, _&&_}
@@ -13,15 +13,16 @@ use Rattle.names.specs.declared.Tuple.{Tuple}
 use Rattle.names.specs.Ordering.{Row, Rising, none, one, more, sequence, differ}
 use Rattle.names.specs.Names.{limit, fits, isName, endsWell, ordinaryFrom}
 use Rattle.names.proofs.Laws.{and-0, and-1, Rising-rising}
-use Rattle.slots.specs.Bytes.{bytes32, tupleSize, rowBytes, every}
+use Rattle.slots.specs.Bytes.{Bytes, Octets, bytes32, tupleSize, rowBytes, every}
 use Rattle.slots.proofs.Written.{row-length}
 use Rattle.pages.specs.Pages.{maxSlots}
 use Rattle.pages.proofs.RoundTrip.{flat, flat-none}
 use Rattle.messages.specs.Fields.{fieldHead, fieldBytes}
-use Rattle.messages.specs.Messages.{insert, rename, nameTag, lineTag, lineSize, Parts, nameFits, isMessage, nameField, lineFields, messageBytes, namesPlace, longest}
+use Rattle.messages.specs.Messages.{insert, rename, nameTag, lineTag, lineSize, Parts, nameFits, isMessage, nameField, lineFields, messageBytes, namesPlace, partsIn, keepsMessage, longest}
 use Rattle.messages.proofs.Fields.{field-length}
-use Rattle.messages.proofs.Facts.{Good, good}
+use Rattle.messages.proofs.Facts.{Good, good, parts-message}
 use Rattle.messages.proofs.ReadBack.{split}
+use Rattle.messages.proofs.WriteBack.{bytes-back}
 
 pub longest-is : longest ≡ 25366
 longest-is = refl
@@ -68,6 +69,9 @@ no-longer p h = go (eqb (p .numbers .kind) rename) (eqb (p .numbers .kind) inser
     go true false d e f g = let m = message-length p in let n = names-bound (p .names) (v .named) in omega arith
     go false true d e f g = let m = message-length p in let n = names-bound (p .names) (v .named) in omega arith
     go false false d e f g = let m = message-length p in let n = names-bound (p .names) (v .named) in omega arith
+
+pub no-longer-read : (s : Bytes) → Octets s → keepsMessage s ≡ true → length s ≤ longest
+no-longer-read s k h = rw (bytes-back s k h) at (no-longer (partsIn s) (parts-message s h))
 
 -- ── and one is as long ──
 

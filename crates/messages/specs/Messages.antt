@@ -55,10 +55,11 @@ pub record Parts : Type 0 where
 
 -- ── what can be said ──
 
+-- "1 insert, 2 remove, 3 rename"
 abbrev pub isKind : ℕ → Bool
 isKind kind = within insert rename kind
 
--- "six zeros for the first epoch; node 0 with another sequence is malformed"
+-- "epoch, node and sequence in 6 bytes, six zeros for the first epoch; node 0 with another sequence is malformed"
 abbrev pub isEpoch : Author → Bool
 isEpoch e = leb (e .node) 65535 && leb (e .sequence) 4294967295 && (leb 1 (e .node) || eqb (e .sequence) 0)
 
