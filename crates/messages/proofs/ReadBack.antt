@@ -17,7 +17,7 @@ use Rattle.slots.proofs.Written.{row-length}
 use Rattle.slots.proofs.RoundTrip.{back32, row-back, name-words}
 use Rattle.pages.proofs.RoundTrip.{flat, flat-none, flat-append}
 use Rattle.messages.specs.Fields.{fieldHead, sizeIn, afterField, stands, fieldBytes}
-use Rattle.messages.specs.Messages.{insert, kindTag, epochTag, authorTag, nameTag, lineTag, kindSize, pairSize, lineSize, Parts, nameFits, mostNames, isMessage, pairBytes, nameField, lineFields, messageBytes, pairIn, nameStands, tuplesIn, namesWithin, afterNames, partsIn, endsAs, framed, keepsMessage}
+use Rattle.messages.specs.Messages.{insert, kindTag, epochTag, authorTag, nameTag, lineTag, kindSize, pairSize, lineSize, Parts, nameFits, mostNames, isMessage, pairBytes, nameField, lineFields, messageBytes, pairIn, nameStands, tuplesIn, namesWithin, afterNames, partsIn, nothing, endsAs, framed, keepsMessage}
 use Rattle.messages.proofs.Fields.{size-back, after-back, stands-back}
 use Rattle.messages.proofs.Walk.{names-turn, after-turn, names-stop, after-stop}
 use Rattle.messages.proofs.Facts.{Good, good}
@@ -75,7 +75,7 @@ module _ (line : ℕ) where
   no-name true = refl
   no-name false = refl
 
-  ends : (b : Bool) → cond b (stands lineTag lineSize (ending b) && eqb (length (afterField (ending b))) 0) (eqb (length (ending b)) 0) ≡ true
+  ends : (b : Bool) → cond b (stands lineTag lineSize (ending b) && nothing (afterField (ending b))) (nothing (ending b)) ≡ true
   unfolding flatten
   ends true = refl
   ends false = refl
