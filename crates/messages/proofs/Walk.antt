@@ -1,21 +1,24 @@
 -- A cursor along a message. What stands at p of s is said of `drop p s`; here it is told by the bytes of s (`stands-at`, `name-at`,
--- `after-at`, `tuples-at`). And a turn of the walk along the names (`names-turn`, `after-turn`), and its end (`names-stop`, `after-stop`).
--- Assumes nothing.
-use mathlib.Core.Path.{_≡_, refl, ap, _∙_}
+-- `after-at`, `tuples-at`, `pair-at`, `nothing-at`), with how far it reaches (`stands-long`, `name-long`, `line-long`). And a turn of the
+-- walk along the names (`names-turn`, `after-turn`), and its end (`names-stop`, `after-stop`). Assumes nothing.
+use mathlib.Core.Path.{_≡_, refl, sym, ap, _∙_}
 use mathlib.Core.List.{[], _∷_}
 use mathlib.Core.Bool.{Bool, true, false, cond, _&&_, and-true}
-use Prim.Native.Nat.{ℕ, zero, suc, _+_, _/_, _%_}
+use Prim.Native.Nat.{ℕ, zero, suc, _+_, _/_, _%_, _≤_}
+use native.Mathlib.Decide.{decLe}
 use native.Mathlib.Omega.{arith}
-use borrow.Author.Tests.{eq-eqb}
+use borrow.Author.Tests.{eq-eqb, ne-eqb}
 use lib.Dec.{leb, eqb}
 use lib.ListN.{length, drop, getD, length-drop}
 use lib.Seq.{drop-drop}
+use Rattle.names.proofs.Laws.{and-0}
 use Rattle.slots.specs.Bytes.{Bytes, at16, tupleSize, tuplesAt}
-use Rattle.slots.proofs.Numbers.{byte-on, two-on}
+use Rattle.slots.proofs.Numbers.{byte-on, two-on, four-on}
 use Rattle.slots.proofs.Rows.{tuples-on}
 use Rattle.slots.proofs.Sorts.{leb-by}
 use Rattle.messages.specs.Fields.{fieldHead, tagIn, sizeIn, afterField, stands}
-use Rattle.messages.specs.Messages.{nameTag, nameStands, tuplesIn, namesWithin, afterNames}
+use Rattle.messages.specs.Messages.{insert, nameTag, lineTag, lineSize, pairIn, nameStands, tuplesIn, namesWithin, afterNames, nothing, endsAs}
+use Rattle.messages.proofs.Fields.{standing}
 
 -- ── at a place ──
 
@@ -42,8 +45,38 @@ module _ (s : Bytes) (p : ℕ) where
   pub after-at : afterField (drop p s) ≡ drop (p + (fieldHead + at16 s (p + 1))) s
   after-at = ap (λ (n : ℕ). drop (fieldHead + n) (drop p s)) size-at ∙ drop-drop (fieldHead + at16 s (p + 1)) p s
 
-  pub tuples-at : tuplesIn (drop p s) ≡ tuplesAt s (p + fieldHead) (at16 s (p + 1) / tupleSize)
-  tuples-at = ap (λ (n : ℕ). tuplesAt (drop p s) fieldHead (n / tupleSize)) size-at ∙ tuples-on p s fieldHead (p + fieldHead) (at16 s (p + 1) / tupleSize) refl
+  pub tuples-at : (n : ℕ) → n ≡ sizeIn (drop p s) → tuplesAt s (p + fieldHead) (n / tupleSize) ≡ tuplesIn (drop p s)
+  tuples-at n e =
+      sym (tuples-on p s fieldHead (p + fieldHead) (n / tupleSize) refl)
+      ∙ ap (λ (k : ℕ). tuplesAt (drop p s) fieldHead (k / tupleSize)) e
+
+  pub pair-at : (q : ℕ) → pairIn s (p + q) ≡ pairIn (drop p s) q
+  pair-at q = sym (λ i. record { node = two-on p s (q + fieldHead) (p + q + fieldHead) (omega arith) i; sequence = four-on p s (q + fieldHead + 2) (p + q + fieldHead + 2) (omega arith) i })
+
+  -- nothing stands at the end of s
+  pub nothing-at : p ≤ length s → eqb p (length s) ≡ nothing (drop p s)
+  nothing-at h =
+      let d = length-drop p s in
+      elim (decLe (length s) p) [
+        | yes k ↦ eq-eqb p (length s) (omega arith) ∙ sym (eq-eqb (length (drop p s)) 0 (omega arith))
+        | no k ↦ ne-eqb p (length s) (λ e. omega arith) ∙ sym (ne-eqb (length (drop p s)) 0 (λ e. omega arith))
+      ]
+
+  -- what stands ends within s
+  pub stands-long : (tag size : ℕ) → stands tag size (drop p s) ≡ true → (p + (fieldHead + size) ≤ length s) × (sizeIn (drop p s) ≡ size)
+  stands-long tag size e =
+      let v = standing tag size (drop p s) e in
+      (let l = v .long in let d = length-drop p s in omega arith, v .sized)
+
+  pub name-long : nameStands (drop p s) ≡ true → p + (fieldHead + sizeIn (drop p s)) ≤ length s
+  name-long e = stands-long nameTag (sizeIn (drop p s)) (and-0 (stands nameTag (sizeIn (drop p s)) (drop p s)) (eqb (sizeIn (drop p s) % tupleSize) 0) e) .0
+
+  pub line-long : (kind : ℕ) → kind ≡ insert → endsAs kind (drop p s) ≡ true → p + (fieldHead + lineSize) ≤ length s
+  line-long kind k e =
+      let t = drop p s in
+      let stood = stands lineTag lineSize t && nothing (afterField t) in
+      let h : stood ≡ true = sym (ap (λ (b : Bool). cond b stood (nothing t)) (eq-eqb kind insert k)) ∙ e in
+      stands-long lineTag lineSize (and-0 (stands lineTag lineSize t) (nothing (afterField t)) h) .0
 
 -- ── along the names ──
 
