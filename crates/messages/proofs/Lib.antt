@@ -1,5 +1,6 @@
 pub mod Fields
 pub mod Walk
+pub mod Passing
 pub mod Facts
 pub mod ReadBack
 pub mod WriteBack

@@ -30,7 +30,7 @@ names-fit (x ∷ l) e =
     let f : length (nameOf x) ≤ limit = let t = length-take (depthOf x) (tuplesAt x headSize limit) in omega arith in
     λ i. (v .named i && le-leb (length (nameOf x)) limit f i) && names-fit l (and-1 (keepsSlot x) (every keepsSlot l) e) i
 
-and-left : (a b c : Bool) → a && (b && c) ≡ b && (a && c)
+pub and-left : (a b c : Bool) → a && (b && c) ≡ b && (a && c)
 and-left true b c = refl
 and-left false b c = sym (and-false b)
 

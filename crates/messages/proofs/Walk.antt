@@ -1,10 +1,10 @@
 -- A cursor along a message. What stands at p of s is said of `drop p s`; here it is told by the bytes of s (`stands-at`, `name-at`,
 -- `after-at`, `tuples-at`, `pair-at`, `nothing-at`), with how far it reaches (`stands-long`, `name-long`, `line-long`). And a turn of the
--- walk along the names (`names-turn`, `after-turn`), and its end (`names-stop`, `after-stop`). Assumes nothing.
+-- walk along the names (`names-turn`, `after-turn`; `names-next`, `after-next`), and its end (`names-stop`, `after-stop`). Assumes nothing.
 use mathlib.Core.Path.{_≡_, refl, sym, ap, _∙_}
 use mathlib.Core.List.{[], _∷_}
 use mathlib.Core.Bool.{Bool, true, false, cond, _&&_, and-true}
-use Prim.Native.Nat.{ℕ, zero, suc, _+_, _/_, _%_, _≤_}
+use Prim.Native.Nat.{ℕ, zero, suc, _+_, _-_, _/_, _%_, _<_, _≤_}
 use native.Mathlib.Decide.{decLe}
 use native.Mathlib.Omega.{arith}
 use borrow.Author.Tests.{eq-eqb, ne-eqb}
@@ -95,3 +95,29 @@ module _ (s : Bytes) (e : nameStands s ≡ false) where
   pub after-stop : (most : ℕ) → afterNames most s ≡ s
   after-stop zero = refl
   after-stop (suc most) = ap (λ (b : Bool). cond b (afterNames most (afterField s)) s) e
+
+-- a turn at p of s, where k of the names have been passed
+module _ (s : Bytes) (p most k : ℕ) (h : k < most) (e : nameStands (drop p s) ≡ true) where
+  one-more : most - k ≡ suc (most - (k + 1))
+  one-more = omega arith
+
+  pub names-next : namesWithin (most - k) (drop p s) ≡ tuplesIn (drop p s) ∷ namesWithin (most - (k + 1)) (drop (p + (fieldHead + sizeIn (drop p s))) s)
+  names-next =
+      ap (λ (n : ℕ). namesWithin n (drop p s)) one-more
+      ∙ names-turn (drop p s) (most - (k + 1)) e
+      ∙ ap (λ (r : Bytes). tuplesIn (drop p s) ∷ namesWithin (most - (k + 1)) r) (drop-drop (fieldHead + sizeIn (drop p s)) p s)
+
+  pub after-next : afterNames (most - k) (drop p s) ≡ afterNames (most - (k + 1)) (drop (p + (fieldHead + sizeIn (drop p s))) s)
+  after-next =
+      ap (λ (n : ℕ). afterNames n (drop p s)) one-more
+      ∙ after-turn (drop p s) (most - (k + 1)) e
+      ∙ ap (afterNames (most - (k + 1))) (drop-drop (fieldHead + sizeIn (drop p s)) p s)
+
+-- how many names there are
+pub names-few : (most : ℕ) (s : Bytes) → length (namesWithin most s) ≤ most
+names-few zero s = omega arith
+names-few (suc most) s = go (nameStands s) (names-few most (afterField s))
+  where
+    go : (b : Bool) → length (namesWithin most (afterField s)) ≤ most → length (cond b (tuplesIn s ∷ namesWithin most (afterField s)) []) ≤ suc most
+    go true h = omega arith
+    go false h = omega arith

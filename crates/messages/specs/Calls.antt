@@ -1,7 +1,8 @@
 -- Reading and writing a message: document 01, "What comes back". "read message 15, 8; write message 15, 8".
 use Prim.Native.Nat.{ℕ}
 use mathlib.Core.List.{[], _∷_, map}
-use mathlib.Core.Bool.{Bool, _&&_}
+use mathlib.Core.Bool.{Bool, true, false, _&&_}
+use lib.ListN.{length}
 use Rattle.names.specs.Ordering.{Row}
 use Rattle.slots.specs.Bytes.{Bytes, every}
 use Rattle.slots.specs.Slots.{Slot}
@@ -11,6 +12,7 @@ use Rattle.pages.specs.declared.Refusal.the-variants.{Malformed}
 use Rattle.pages.specs.Answers.{Outcome, ask, refuse, write}
 use Rattle.pages.specs.Pages.{slotsOf, namesOf, pieces, keepsLayout, lineIsZero}
 use Rattle.messages.specs.declared.Numbers.{Numbers}
+use Rattle.messages.specs.declared.Told.{Told}
 use Rattle.messages.specs.Messages.{Parts, isMessage, messageBytes, namesIn, numbersIn, keepsMessage}
 
 -- ── reading ──
@@ -25,6 +27,16 @@ reading s room = ask (keepsMessage s) (refuse Malformed) (write (pieces (map bar
 
 abbrev pub zeros : Numbers
 zeros = record { kind = 0; epoch = record { node = 0; sequence = 0 }; author = record { node = 0; sequence = 0 }; line = 0 }
+
+-- what the first pass finds: whether the bytes are a message, its numbers, and how many names it has; of what is no message, zeros
+abbrev pub untold : Told
+untold = record { ok = false; numbers = zeros; names = 0 }
+
+abbrev pub allTold : Numbers → ℕ → Told
+allTold x n = record { ok = true; numbers = x; names = n }
+
+unfoldable pub telling : Bytes → Told
+telling s = ask (keepsMessage s) untold (allTold (numbersIn s) (length (namesIn s)))
 
 -- "a refused read gives kind, epoch, author and line number as zeros"
 abbrev pub givenBy : Answer → Numbers → Numbers

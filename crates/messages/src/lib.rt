@@ -5,13 +5,17 @@ ghost use mathlib.Core.Bool.{true, cond, _&&_};
 ghost use Prim.Native.Nat.{_+_, _≤_};
 ghost use lib.Dec.{eqb};
 ghost use lib.ListN.{length, drop};
-ghost use Rattle.names.specs.Names.{limit, rowOf};
-ghost use Rattle.slots.specs.Bytes.{at32};
+ghost use Rattle.names.specs.Names.{rowOf};
+ghost use Rattle.names.specs.Ordering.{compareRows, isLess, rising};
+ghost use Rattle.slots.specs.Bytes.{at32, every};
+ghost use Rattle.pages.specs.Answers.{ask};
 ghost use Rattle.messages.specs.Fields.{fieldHead, sizeIn, stands};
-ghost use Rattle.messages.specs.Messages.{insert, kindTag, epochTag, authorTag, kindSize, pairSize, isKind, isEpoch, isAuthor, isLine, nameFits, mostNames, nameStands, tuplesIn, epochPlace, authorPlace, namesPlace, pairIn, kindIn, restIn, numbersIn, endsAs};
+ghost use Rattle.messages.specs.Messages.{insert, kindTag, epochTag, authorTag, kindSize, pairSize, isKind, isEpoch, isAuthor, isLine, nameFits, mostNames, nameStands, tuplesIn, namesWithin, afterNames, epochPlace, authorPlace, namesPlace, pairIn, kindIn, restIn, numbersIn, endsAs};
+ghost use Rattle.messages.specs.Calls.{zeros as noNumbers, allTold, untold as nothingTold, telling};
 use names::Author;
 use names::LIMIT;
 use names::Name;
+use names::Order;
 use pages::SLOTS;
 use slots::TUPLE;
 
@@ -284,5 +288,126 @@ fn numbers_in(message: &[u8], cursor: Cursor, end: Cursor) -> Numbers
         epoch,
         author,
         line,
+    }
+}
+
+// ── the first pass ──
+
+fn is_above(name: Name, before: Name) -> bool
+    ensures { λ r. ⌜ r ≡ isLess (compareRows (rowOf before) (rowOf name)) ⌝ }
+{
+    match names::compare(before, name) {
+        Order::Less => true,
+        Order::Same => false,
+        Order::More => false,
+    }
+}
+
+// Whether the names passed are names and rise, how many they are, and the place after their fields.
+struct Passed {
+    good: bool,
+    names: usize,
+    at: usize,
+}
+
+// The names whose fields stand one after the other from the cursor on, at most so many. The row of no tuples is below every name.
+fn pass_names(message: &[u8], cursor: Cursor, most: usize) -> Passed
+    requires { ⌜ cursor .at ≤ length (now message) ⌝ }
+    ensures { λ r. ⌜ r .good ≡ (every nameFits (namesWithin most (drop (cursor .at) (now (message .entry)))) && rising (namesWithin most (drop (cursor .at) (now (message .entry))))) ⌝ }
+    ensures { λ r. ⌜ (r .good ≡ true → (r .names ≡ length (namesWithin most (drop (cursor .at) (now (message .entry))))) × (drop (r .at) (now (message .entry)) ≡ afterNames most (drop (cursor .at) (now (message .entry)))) × (r .at ≤ length (now (message .entry)))) ⌝ }
+{
+    let mut last = names::empty();
+    let mut names: usize = 0;
+    let mut at = cursor.at;
+    loop {
+        if most <= names {
+            break Passed { good: true, names, at };
+        }
+        let here = Cursor { at };
+        if name_stands(message, here) {} else {
+            break Passed { good: true, names, at };
+        }
+        if name_fits(message, here) {} else {
+            break Passed { good: false, names, at };
+        }
+        let name = name_in(message, here);
+        if is_above(name, last) {} else {
+            break Passed { good: false, names, at };
+        }
+        let next = after_field(message, here);
+        last = name;
+        at = next.at;
+        names += 1;
+    }
+}
+
+fn zeros() -> Numbers
+    ensures { λ r. ⌜ r ≡ noNumbers ⌝ }
+{
+    let none = Author { node: 0, sequence: 0 };
+    Numbers {
+        kind: 0,
+        epoch: none,
+        author: none,
+        line: 0,
+    }
+}
+
+// What the first pass has found: whether the bytes are a message, its numbers, and how many names it has. Of what is no message, zeros.
+struct Told {
+    ok: bool,
+    numbers: Numbers,
+    names: usize,
+}
+
+fn untold() -> Told
+    ensures { λ r. ⌜ r ≡ nothingTold ⌝ }
+{
+    let numbers = zeros();
+    Told {
+        ok: false,
+        numbers,
+        names: 0,
+    }
+}
+
+// The numbers and so many names, where the numbers may be said.
+fn tell_numbers(numbers: Numbers, names: usize) -> Told
+    ensures { λ r. ⌜ r ≡ ask (isKind (numbers .kind) && isEpoch (numbers .epoch) && isAuthor (numbers .author) && isLine (numbers .kind) (numbers .line)) nothingTold (allTold numbers names) ⌝ }
+{
+    if numbers_ok(numbers) {
+        return Told {
+            ok: true,
+            numbers,
+            names,
+        };
+    }
+    untold()
+}
+
+// One pass over the message from the cursor on.
+fn tell(message: &[u8], cursor: Cursor) -> Told
+    requires { ⌜ cursor .at ≤ length (now message) ⌝ }
+    ensures { λ r. ⌜ r ≡ telling (drop (cursor .at) (now (message .entry))) ⌝ }
+{
+    if head_stands(message, cursor) {
+        let kind = kind_in(message, cursor);
+        let first = Cursor { at: cursor.at + NAMES };
+        let passed = pass_names(message, first, most_names(kind));
+        if passed.good {
+            if passed.names < 1 {
+                return untold();
+            }
+            let end = Cursor { at: passed.at };
+            if ends(message, end, kind) {
+                tell_numbers(numbers_in(message, cursor, end), passed.names)
+            } else {
+                untold()
+            }
+        } else {
+            untold()
+        }
+    } else {
+        untold()
     }
 }
