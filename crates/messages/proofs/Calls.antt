@@ -53,7 +53,7 @@ bare-zero : (l : List Row) → every lineIsZero (map bare l) ≡ true
 bare-zero [] = refl
 bare-zero (a ∷ l) = bare-zero l
 
-bare-slots : (l : List Row) → every nameFits l ≡ true → every isSlot (map bare l) ≡ true
+pub bare-slots : (l : List Row) → every nameFits l ≡ true → every isSlot (map bare l) ≡ true
 bare-slots [] e = refl
 bare-slots (a ∷ l) e = λ i. and-0 (nameFits a) (every nameFits l) e i && bare-slots l (and-1 (nameFits a) (every nameFits l) e) i
 

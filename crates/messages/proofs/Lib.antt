@@ -8,3 +8,6 @@ pub mod Octets
 pub mod Longest
 pub mod Calls
 pub mod Logs
+pub mod Placing
+pub mod Filling
+pub mod Settled

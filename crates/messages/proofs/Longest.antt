@@ -29,10 +29,10 @@ longest-is = refl
 
 -- ── lengths ──
 
-name-length : (a : Row) → length (nameField a) ≡ fieldHead + tupleSize * length a
+pub name-length : (a : Row) → length (nameField a) ≡ fieldHead + tupleSize * length a
 name-length a = field-length nameTag (rowBytes a) ∙ ap (λ (n : ℕ). fieldHead + n) (row-length a)
 
-names-cons : (a : Row) (l : List Row) → length (flatten (map nameField (a ∷ l))) ≡ fieldHead + tupleSize * length a + length (flatten (map nameField l))
+pub names-cons : (a : Row) (l : List Row) → length (flatten (map nameField (a ∷ l))) ≡ fieldHead + tupleSize * length a + length (flatten (map nameField l))
 names-cons a l =
     ap length (flat (nameField a) (map nameField l))
     ∙ length-append (nameField a) (flatten (map nameField l))
@@ -53,7 +53,7 @@ names-bound (a ∷ l) e =
     let c = names-cons a l in
     omega arith
 
-line-length : (line : ℕ) (b : Bool) → length (flatten (cond b (fieldBytes lineTag (bytes32 line) ∷ []) [])) ≡ cond b (fieldHead + lineSize) 0
+pub line-length : (line : ℕ) (b : Bool) → length (flatten (cond b (fieldBytes lineTag (bytes32 line) ∷ []) [])) ≡ cond b (fieldHead + lineSize) 0
 unfolding flatten
 line-length line true = refl
 line-length line false = refl

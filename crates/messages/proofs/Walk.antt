@@ -2,7 +2,7 @@
 -- `after-at`, `tuples-at`, `pair-at`, `nothing-at`), with how far it reaches (`stands-long`, `name-long`, `line-long`). And a turn of the
 -- walk along the names (`names-turn`, `after-turn`; `names-next`, `after-next`), and its end (`names-stop`, `after-stop`). Assumes nothing.
 use mathlib.Core.Path.{_≡_, refl, sym, ap, _∙_}
-use mathlib.Core.List.{[], _∷_}
+use mathlib.Core.List.{List, [], _∷_}
 use mathlib.Core.Bool.{Bool, true, false, cond, _&&_, and-true}
 use Prim.Native.Nat.{ℕ, zero, suc, _+_, _-_, _/_, _%_, _<_, _≤_}
 use native.Mathlib.Decide.{decLe}
@@ -11,6 +11,7 @@ use borrow.Author.Tests.{eq-eqb, ne-eqb}
 use lib.Dec.{leb, eqb}
 use lib.ListN.{length, drop, getD, length-drop}
 use lib.Seq.{drop-drop}
+use Rattle.names.specs.Ordering.{Row}
 use Rattle.names.proofs.Laws.{and-0}
 use Rattle.slots.specs.Bytes.{Bytes, at16, tupleSize, tuplesAt}
 use Rattle.slots.proofs.Numbers.{byte-on, two-on, four-on}
@@ -121,3 +122,21 @@ names-few (suc most) s = go (nameStands s) (names-few most (afterField s))
     go : (b : Bool) → length (namesWithin most (afterField s)) ≤ most → length (cond b (tuplesIn s ∷ namesWithin most (afterField s)) []) ≤ suc most
     go true h = omega arith
     go false h = omega arith
+
+-- as many as there are
+pub names-exact : (most : ℕ) (s : Bytes) → namesWithin (length (namesWithin most s)) s ≡ namesWithin most s
+names-exact zero s = refl
+names-exact (suc most) s = go (nameStands s) refl (names-exact most (afterField s))
+  where
+    go : (b : Bool) → nameStands s ≡ b → namesWithin (length (namesWithin most (afterField s))) (afterField s) ≡ namesWithin most (afterField s) → namesWithin (length (cond b (tuplesIn s ∷ namesWithin most (afterField s)) [])) s ≡ cond b (tuplesIn s ∷ namesWithin most (afterField s)) []
+    go true e h = names-turn s (length (namesWithin most (afterField s))) e ∙ ap (λ (l : List Row). tuplesIn s ∷ l) h
+    go false e h = refl
+
+-- where there is a name, one stands
+pub name-first : (most : ℕ) (s : Bytes) → 1 ≤ length (namesWithin most s) → nameStands s ≡ true
+name-first zero s h = absurd (omega arith)
+name-first (suc most) s h = go (nameStands s) h
+  where
+    go : (b : Bool) → 1 ≤ length (cond b (tuplesIn s ∷ namesWithin most (afterField s)) []) → b ≡ true
+    go true h = refl
+    go false h = absurd (omega arith)

@@ -1,22 +1,28 @@
 // Messages: their fields, what they say, reading and writing. Document 01, "Messages" and "What comes back"; the definitions are in
 // specs/.
 ghost use mathlib.Core.Path.{_≡_};
+ghost use mathlib.Core.List.{[], _∷_, _++_, map, flatten};
 ghost use mathlib.Core.Bool.{true, cond, _&&_};
-ghost use Prim.Native.Nat.{_+_, _≤_};
+ghost use Prim.Native.Nat.{_+_, _*_, _≤_};
 ghost use lib.Dec.{eqb};
 ghost use lib.ListN.{length, drop};
-ghost use Rattle.names.specs.Names.{rowOf};
+ghost use Rattle.names.specs.Names.{limit, rowOf};
 ghost use Rattle.names.specs.Ordering.{compareRows, isLess, rising};
-ghost use Rattle.slots.specs.Bytes.{at32, every};
-ghost use Rattle.pages.specs.Answers.{ask};
-ghost use Rattle.messages.specs.Fields.{fieldHead, sizeIn, stands};
-ghost use Rattle.messages.specs.Messages.{insert, kindTag, epochTag, authorTag, kindSize, pairSize, isKind, isEpoch, isAuthor, isLine, nameFits, mostNames, nameStands, tuplesIn, namesWithin, afterNames, epochPlace, authorPlace, namesPlace, pairIn, kindIn, restIn, numbersIn, endsAs};
-ghost use Rattle.messages.specs.Calls.{zeros as noNumbers, allTold, untold as nothingTold, telling};
+ghost use Rattle.slots.specs.Bytes.{at32, bytes16, bytes32, tupleSize, every, put};
+ghost use Rattle.slots.specs.Slots.{slotSize};
+ghost use Rattle.pages.specs.Answers.{ask, leaves};
+ghost use Rattle.pages.specs.Pages.{maxSlots, namesOf, pieces, keepsLayout};
+ghost use Rattle.messages.specs.Fields.{fieldHead, sizeIn, stands, fieldBytes};
+ghost use Rattle.messages.specs.Messages.{insert, kindTag, epochTag, authorTag, kindSize, pairSize, lineSize, pairBytes, nameField, lineFields, messageBytes, isKind, isEpoch, isAuthor, isLine, nameFits, mostNames, nameStands, tuplesIn, namesWithin, afterNames, epochPlace, authorPlace, namesPlace, pairIn, kindIn, restIn, numbersIn, endsAs};
+ghost use Rattle.messages.specs.Calls.{bare, reading, zeros as noNumbers, allTold, untold as nothingTold, telling, numbersRead, partsGiven, mayWrite, writing};
 use names::Author;
 use names::LIMIT;
 use names::Name;
 use names::Order;
+use pages::Answer;
+use pages::Refusal;
 use pages::SLOTS;
+use slots::SLOT;
 use slots::TUPLE;
 
 // "Reading gives kind, epoch, author, line number (0 unless insert) and the names": all of it but the names. An epoch goes by the
@@ -409,5 +415,220 @@ fn tell(message: &[u8], cursor: Cursor) -> Told
         }
     } else {
         untold()
+    }
+}
+
+// ── the second pass ──
+
+// "the names, in slots with line number 0": the n names whose fields stand from the cursor on, from the start of out.
+fn write_slots(message: &[u8], cursor: Cursor, n: usize, out: &mut [u8])
+    requires { ⌜ (length (namesWithin n (drop (cursor .at) (now message))) ≡ n) × (every nameFits (namesWithin n (drop (cursor .at) (now message))) ≡ true) × (slotSize * n ≤ length (now out)) ⌝ }
+    ensures { λ _. ⌜ now (out .exit) ≡ put (now (out .entry)) 0 (flatten (pieces (map bare (namesWithin n (drop (cursor .at) (now (message .entry))))))) ⌝ }
+{
+    let mut i: usize = 0;
+    let mut at = cursor.at;
+    while i < n {
+        let here = Cursor { at };
+        slots::write_slot(out, SLOT * i, 0, name_in(message, here));
+        let next = after_field(message, here);
+        at = next.at;
+        i += 1;
+    }
+}
+
+// What a message says but for the names, which are in the output.
+pub struct Reading {
+    pub answer: Answer,
+    pub numbers: Numbers,
+}
+
+// "a refused read gives kind, epoch, author and line number as zeros"
+fn unread(refusal: Refusal) -> Reading
+    ensures { λ r. ⌜ (r .answer ≡ Answer.Refused refusal) × (r .numbers ≡ noNumbers) ⌝ }
+{
+    let numbers = zeros();
+    Reading {
+        answer: Answer::Refused(refusal),
+        numbers,
+    }
+}
+
+// 15, 8; else the numbers, and the names in slots with line number 0. One pass over the bytes, and a second that writes.
+pub fn read(message: &[u8], out: &mut [u8]) -> Reading
+    ensures { λ r. ⌜ (r .answer ≡ reading (now (message .entry)) (length (now (out .entry))) .answer) × (r .numbers ≡ numbersRead (now (message .entry)) (length (now (out .entry)))) ⌝ }
+    ensures { λ r. ⌜ now (out .exit) ≡ leaves (reading (now (message .entry)) (length (now (out .entry)))) (now (out .entry)) ⌝ }
+{
+    let told = tell(message, Cursor { at: 0 });
+    if told.ok {
+        if out.len() / SLOT < told.names {
+            return unread(Refusal::Short);
+        }
+        write_slots(message, Cursor { at: NAMES }, told.names, out);
+        let numbers = told.numbers;
+        Reading {
+            answer: Answer::Accepted(told.names),
+            numbers,
+        }
+    } else {
+        unread(Refusal::Malformed)
+    }
+}
+
+// ── writing ──
+
+// "All numbers are big-endian": two bytes from p on.
+fn write_u16(out: &mut [u8], p: usize, v: u16)
+    requires { ⌜ p + 2 ≤ length (now out) ⌝ }
+    ensures { λ _. ⌜ now (out .exit) ≡ put (now (out .entry)) p (bytes16 v) ⌝ }
+{
+    out[p] = (v / 256) as u8;
+    out[p + 1] = (v % 256) as u8;
+}
+
+// A field's tag and length.
+fn write_head(out: &mut [u8], p: usize, tag: u8, size: u16)
+    requires { ⌜ p + fieldHead ≤ length (now out) ⌝ }
+    ensures { λ _. ⌜ now (out .exit) ≡ put (now (out .entry)) p (tag ∷ bytes16 size) ⌝ }
+{
+    out[p] = tag;
+    write_u16(out, p + SIZE, size);
+}
+
+fn write_kind(out: &mut [u8], p: usize, kind: u8)
+    requires { ⌜ p + (fieldHead + kindSize) ≤ length (now out) ⌝ }
+    ensures { λ _. ⌜ now (out .exit) ≡ put (now (out .entry)) p (fieldBytes kindTag (kind ∷ [])) ⌝ }
+{
+    write_head(out, p, KIND_TAG, KIND as u16);
+    out[p + FIELD] = kind;
+}
+
+// "node and sequence in 6 bytes"
+fn write_pair(out: &mut [u8], p: usize, tag: u8, x: Author)
+    requires { ⌜ p + (fieldHead + pairSize) ≤ length (now out) ⌝ }
+    ensures { λ _. ⌜ now (out .exit) ≡ put (now (out .entry)) p (fieldBytes tag (pairBytes x)) ⌝ }
+{
+    write_head(out, p, tag, PAIR as u16);
+    write_u16(out, p + FIELD, x.node);
+    slots::write_u32(out, p + FIELD + SEQUENCE, x.sequence);
+}
+
+// The fields of fixed sizes.
+fn write_numbers(out: &mut [u8], x: Numbers)
+    requires { ⌜ namesPlace ≤ length (now out) ⌝ }
+    ensures { λ _. ⌜ now (out .exit) ≡ put (now (out .entry)) 0 (fieldBytes kindTag (x .kind ∷ []) ++ (fieldBytes epochTag (pairBytes (x .epoch)) ++ fieldBytes authorTag (pairBytes (x .author)))) ⌝ }
+{
+    write_kind(out, 0, x.kind);
+    write_pair(out, EPOCH, EPOCH_TAG, x.epoch);
+    write_pair(out, AUTHOR, AUTHOR_TAG, x.author);
+}
+
+// A name's field, and the place after it.
+fn write_name(out: &mut [u8], p: usize, a: Name) -> usize
+    requires { ⌜ p + length (nameField (rowOf a)) ≤ length (now out) ⌝ }
+    ensures { λ r. ⌜ r ≡ p + length (nameField (rowOf a)) ⌝ }
+    ensures { λ r. ⌜ now (out .exit) ≡ put (now (out .entry)) p (nameField (rowOf a)) ⌝ }
+{
+    let size = TUPLE * names::tuples_in(a);
+    write_head(out, p, NAME_TAG, size as u16);
+    slots::write_row(out, p + FIELD, a);
+    p + FIELD + size
+}
+
+// The fields of the names in the slots from p on, and the place after them.
+fn write_names(names: &[u8], out: &mut [u8], p: usize) -> usize
+    requires { ⌜ p + length (flatten (map nameField (namesOf (now names)))) ≤ length (now out) ⌝ }
+    ensures { λ r. ⌜ r ≡ p + length (flatten (map nameField (namesOf (now (names .entry))))) ⌝ }
+    ensures { λ r. ⌜ now (out .exit) ≡ put (now (out .entry)) p (flatten (map nameField (namesOf (now (names .entry))))) ⌝ }
+{
+    let n = names.len() / SLOT;
+    let mut k: usize = 0;
+    let mut place = p;
+    while k < n {
+        let at = SLOT * k;
+        let end = at + SLOT;
+        place = write_name(out, place, slots::read_name(&names[at..end]));
+        k += 1;
+    }
+    place
+}
+
+// "for insert .. tag 5 (line number, 4 bytes)"
+fn write_line(out: &mut [u8], p: usize, kind: u8, line: u32)
+    requires { ⌜ p + length (flatten (lineFields kind line)) ≤ length (now out) ⌝ }
+    ensures { λ _. ⌜ now (out .exit) ≡ put (now (out .entry)) p (flatten (lineFields kind line)) ⌝ }
+{
+    if kind == INSERT {
+        write_head(out, p, LINE_TAG, LINE as u16);
+        slots::write_u32(out, p + FIELD, line);
+    }
+}
+
+fn line_size(kind: u8) -> usize
+    ensures { λ r. ⌜ (r ≡ cond (eqb kind insert) (fieldHead + lineSize) 0) × (r ≤ fieldHead + lineSize) ⌝ }
+{
+    if kind == INSERT { FIELD + LINE } else { 0 }
+}
+
+// How many bytes the names' fields have.
+fn names_size(names: &[u8]) -> usize
+    requires { ⌜ keepsLayout (now names) ≡ true ⌝ }
+    ensures { λ r. ⌜ (r ≡ length (flatten (map nameField (namesOf (now (names .entry)))))) × (r ≤ maxSlots * (fieldHead + tupleSize * limit)) ⌝ }
+{
+    let n = names.len() / SLOT;
+    let mut k: usize = 0;
+    let mut size: usize = 0;
+    while k < n {
+        let at = SLOT * k;
+        let end = at + SLOT;
+        size = size + FIELD + TUPLE * slots::depth(&names[at..end]);
+        k += 1;
+    }
+    size
+}
+
+// How many bytes the message has.
+fn message_size(x: Numbers, names: &[u8]) -> usize
+    requires { ⌜ keepsLayout (now names) ≡ true ⌝ }
+    ensures { λ r. ⌜ r ≡ length (messageBytes (partsGiven x (now (names .entry)))) ⌝ }
+{
+    NAMES + names_size(names) + line_size(x.kind)
+}
+
+// "15 for any parts that reading can't give": the slots are asked for a log, with no more names than the kind has.
+fn may_write(x: Numbers, names: &[u8]) -> bool
+    ensures { λ r. ⌜ r ≡ mayWrite x (now (names .entry)) ⌝ }
+{
+    if numbers_ok(x) {
+        if pages::log_ok(names) {
+            return names.len() / SLOT <= most_names(x.kind);
+        }
+    }
+    false
+}
+
+// "in this order, nothing after"
+fn write_fields(x: Numbers, names: &[u8], out: &mut [u8])
+    requires { ⌜ length (messageBytes (partsGiven x (now names))) ≤ length (now out) ⌝ }
+    ensures { λ _. ⌜ now (out .exit) ≡ put (now (out .entry)) 0 (messageBytes (partsGiven x (now (names .entry)))) ⌝ }
+{
+    write_numbers(out, x);
+    let end = write_names(names, out, NAMES);
+    write_line(out, end, x.kind, x.line);
+}
+
+// 15, 8; else the message of the numbers and the names in the slots.
+pub fn write(numbers: Numbers, names: &[u8], out: &mut [u8]) -> Answer
+    ensures { λ r. ⌜ r ≡ writing numbers (now (names .entry)) (length (now (out .entry))) .answer ⌝ }
+    ensures { λ r. ⌜ now (out .exit) ≡ leaves (writing numbers (now (names .entry)) (length (now (out .entry)))) (now (out .entry)) ⌝ }
+{
+    if may_write(numbers, names) {
+        let size = message_size(numbers, names);
+        if out.len() < size {
+            return Answer::Refused(Refusal::Short);
+        }
+        write_fields(numbers, names, out);
+        Answer::Accepted(size)
+    } else {
+        Answer::Refused(Refusal::Malformed)
     }
 }

@@ -1,0 +1,35 @@
+-- `messages::write_head` meets its contract. Assumes nothing.
+use mathlib.Core.Path.{refl, _∙_}
+use mathlib.Core.List.{[], _∷_}
+use native.Mathlib.Omega.{arith}
+use denote.Ref.{now}
+use lib.ListN.{length-set}
+use lib.Seq.{sets-eq}
+use Rattle.slots.specs.Bytes.{bytes16}
+use Rattle.slots.proofs.Put.{put-more}
+use borrow.Author.Needs.{needs}
+use Rattle.messages.proofs.write_head.Statement.{statement}
+use Rattle.messages.proofs.write_head.Tie as tie
+
+slice-write-out : tie.Need-slice-write-out
+slice-write-out c = search needs
+
+add-write-u16 : tie.Need-add-write-u16
+add-write-u16 c = search needs
+
+write-u16-requires : tie.Need-write-u16-requires
+write-u16-requires c κs = simp length-set (omega arith)
+
+same-length : tie.Need-same-length
+same-length c = c .before .before .write-u16 .kept .0 ∙ length-set (now (c .before .before .before .before .before .args .out)) (c .before .before .before .before .before .args .p) (c .before .before .before .before .before .args .tag)
+
+returns : tie.Need-returns
+returns c =
+    let o = now (c .before .before .before .before .before .args .out) in
+    let p = c .before .before .before .before .before .args .p in
+    let t = c .before .before .before .before .before .args .tag in
+    put-more o p (omega arith) (t ∷ []) (bytes16 (c .before .before .before .before .before .args .size)) (sets-eq (t ∷ []) o p (omega arith)) refl (c .before .before .write-u16 .ensures)
+
+pub write-head-spec : {M : Type 1} → statement M
+write-head-spec =
+    tie.close (tie.spec slice-write-out add-write-u16 write-u16-requires same-length returns)

@@ -1,0 +1,69 @@
+-- `messages::write_name` meets its contract. Assumes nothing.
+use mathlib.Core.Path.{_≡_, refl, _∙_, ap}
+use mathlib.Core.List.{_∷_, _++_}
+use Prim.Native.Nat.{ℕ, _*_}
+use native.Mathlib.Omega.{arith}
+use denote.Ref.{now}
+use lib.ListN.{length}
+use Rattle.names.specs.Names.{rowOf}
+use Rattle.slots.specs.Bytes.{bytes16, tupleSize, rowBytes, put}
+use Rattle.slots.proofs.Put.{put-more}
+use Rattle.slots.proofs.Written.{row-length}
+use Rattle.messages.specs.Messages.{nameTag}
+use Rattle.messages.proofs.Longest.{name-length}
+use borrow.Author.Needs.{needs}
+use Rattle.messages.proofs.write_name.Statement.{statement}
+use Rattle.messages.proofs.write_name.Tie as tie
+
+tuples-in-requires : tie.Need-tuples-in-requires
+tuples-in-requires c κs = search needs
+
+mul-size : tie.Need-mul-size
+mul-size c = search needs
+
+cast-write-head : tie.Need-cast-write-head
+cast-write-head c = search needs
+
+write-head-requires : tie.Need-write-head-requires
+write-head-requires c κs = search needs
+
+add-write-row : tie.Need-add-write-row
+add-write-row c = search needs
+
+write-row-requires : tie.Need-write-row-requires
+write-row-requires c κs = let l = name-length (rowOf (c .before .before .before .before .before .before .before .args .a)) in let k = c .before .before .before .write-head .kept .0 in omega arith
+
+add-result : tie.Need-add-result
+add-result c = search needs
+
+add-result-2 : tie.Need-add-result-2
+add-result-2 c = search needs
+
+same-length : tie.Need-same-length
+same-length c = search needs
+
+returns : tie.Need-returns
+returns c =
+    let o = now (c .before .before .before .before .before .before .before .before .before .before .args .out) in
+    let p = c .before .before .before .before .before .before .before .before .before .before .args .p in
+    let a = rowOf (c .before .before .before .before .before .before .before .before .before .before .args .a) in
+    let l = name-length a in
+    let size = tupleSize * c .before .before .before .before .before .before .before .before .tuples-in .result in
+    let e : size ≡ length (rowBytes a) = let r = row-length a in let t = c .before .before .before .before .before .before .before .before .tuples-in .ensures .0 in omega arith in
+    let t = c .before .before .before .before .before .before .before .before .tuples-in .ensures .0 in
+    (omega arith, put-more o p (omega arith) (nameTag ∷ bytes16 size) (rowBytes a) (c .before .before .before .before .before .before .write-head .ensures) refl (c .before .before .write-row .ensures) ∙ ap (λ (n : ℕ). put o p ((nameTag ∷ bytes16 n) ++ rowBytes a)) e)
+
+pub write-name-spec : {M : Type 1} → statement M
+write-name-spec =
+    tie.close
+    (tie.spec
+    tuples-in-requires
+    mul-size
+    cast-write-head
+    write-head-requires
+    add-write-row
+    write-row-requires
+    add-result
+    add-result-2
+    same-length
+    returns)

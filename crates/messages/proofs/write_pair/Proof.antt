@@ -1,0 +1,63 @@
+-- `messages::write_pair` meets its contract. Assumes nothing.
+use mathlib.Core.Path.{_≡_, refl}
+use mathlib.Core.List.{_∷_, _++_}
+use Prim.Native.Nat.{_+_, _≤_}
+use native.Mathlib.Omega.{arith}
+use denote.Ref.{now}
+use lib.ListN.{length}
+use Rattle.slots.specs.Bytes.{bytes16, bytes32}
+use Rattle.slots.proofs.Put.{put-more}
+use Rattle.messages.specs.Fields.{fieldHead}
+use Rattle.messages.specs.Messages.{pairSize}
+use borrow.Author.Needs.{needs}
+use Rattle.messages.proofs.write_pair.Statement.{statement}
+use Rattle.messages.proofs.write_pair.Tie as tie
+
+cast-write-head : tie.Need-cast-write-head
+cast-write-head c = search needs
+
+write-head-requires : tie.Need-write-head-requires
+write-head-requires c κs = search needs
+
+add-write-u16 : tie.Need-add-write-u16
+add-write-u16 c = search needs
+
+write-u16-requires : tie.Need-write-u16-requires
+write-u16-requires c κs = search needs
+
+add-write-u32 : tie.Need-add-write-u32
+add-write-u32 c = search needs
+
+add-write-u32-2 : tie.Need-add-write-u32-2
+add-write-u32-2 c = search needs
+
+write-u32-requires : tie.Need-write-u32-requires
+write-u32-requires c κs = search needs
+
+same-length : tie.Need-same-length
+same-length c = search needs
+
+returns : tie.Need-returns
+returns c =
+    let o = now (c .before .before .before .before .before .before .before .before .before .before .before .before .before .args .out) in
+    let p = c .before .before .before .before .before .before .before .before .before .before .before .before .before .args .p in
+    let x = c .before .before .before .before .before .before .before .before .before .before .before .before .before .args .x in
+    let h : p ≤ length o = omega arith in
+    let head = c .before .before .before .before .before .before .before .before .before .before .before .before .before .args .tag ∷ bytes16 pairSize in
+    let d = put-more o p h head (bytes16 (x .node)) (c .before .before .before .before .before .before .before .before .before .before .write-head .ensures) refl (c .before .before .before .before .before .before .write-u16 .ensures) in
+    let q : p + fieldHead + 2 ≡ p + length (head ++ bytes16 (x .node)) = omega arith in
+    put-more o p h (head ++ bytes16 (x .node)) (bytes32 (x .sequence)) d q (c .before .before .write-u32 .ensures)
+
+pub write-pair-spec : {M : Type 1} → statement M
+write-pair-spec =
+    tie.close
+    (tie.spec
+    cast-write-head
+    write-head-requires
+    add-write-u16
+    write-u16-requires
+    add-write-u32
+    add-write-u32-2
+    write-u32-requires
+    same-length
+    returns)
