@@ -89,10 +89,10 @@ module _ {s : Bytes} {q : ℕ} {o₀ o : Bytes} {p k : ℕ} (v : Filling s q o�
             count = let c = v .count in let m = longer in omega arith;
             room = ap length f ∙ put-length o p (omega arith) (nameField a) l ∙ v .room;
             stand =
-              (λ i. put (f i) (g i) w)
-              ∙ put-put o p (omega arith) (nameField a) w
-              ∙ ap (put o p) (sym (next ∙ flat (nameField a) (map nameField (drop (k + 1) (namesOf s)))))
-              ∙ v .stand;
+                (λ i. put (f i) (g i) w)
+                ∙ put-put o p (omega arith) (nameField a) w
+                ∙ ap (put o p) (sym (next ∙ flat (nameField a) (map nameField (drop (k + 1) (namesOf s)))))
+                ∙ v .stand;
           }
 
 -- ── the line number ──

@@ -107,14 +107,14 @@ module _ {s : Bytes} {c most : ℕ} {b : Row} {p k : ℕ} (v : Passing s c most 
 -- ── the message ──
 
 -- the fields of kind, epoch and author
-abbrev pub headStands : Bytes → Bool
-headStands s = stands kindTag kindSize s && stands epochTag pairSize (drop epochPlace s) && stands authorTag pairSize (drop authorPlace s)
+abbrev pub numbersStand : Bytes → Bool
+numbersStand s = stands kindTag kindSize s && stands epochTag pairSize (drop epochPlace s) && stands authorTag pairSize (drop authorPlace s)
 
 abbrev pub okNumbers : Numbers → Bool
 okNumbers x = isKind (x .kind) && isEpoch (x .epoch) && isAuthor (x .author) && isLine (x .kind) (x .line)
 
-pub head-long : (s : Bytes) (p : ℕ) → headStands (drop p s) ≡ true → p + namesPlace ≤ length s
-head-long s p e =
+pub numbers-long : (s : Bytes) (p : ℕ) → numbersStand (drop p s) ≡ true → p + namesPlace ≤ length s
+numbers-long s p e =
     let t = drop p s in
     let v = standing authorTag pairSize (drop authorPlace t) (and-1 (stands kindTag kindSize t && stands epochTag pairSize (drop epochPlace t)) (stands authorTag pairSize (drop authorPlace t)) e) in
     let l = v .long in
@@ -134,15 +134,15 @@ module _ (s : Bytes) (p : ℕ) {kind most : ℕ} (k : kind ≡ kindIn (drop p s)
 order : (h d k e a n w₁ w₂ r l : Bool) → w₂ ≡ true → h && d && (k && e && a && n && (w₁ && w₂) && r && l) ≡ h && (n && r) && w₁ && d && (k && e && a && l)
 order h d k e a n w₁ w₂ r l f = rw f (simp (and-true, and-assoc, and-comm, and-left))
 
-pub keeps-by : (s : Bytes) → keepsMessage s ≡ headStands s && goodNames (namesIn s) && leb 1 (length (namesIn s)) && endsAs (kindIn s) (restIn s) && okNumbers (numbersIn s)
+pub keeps-by : (s : Bytes) → keepsMessage s ≡ numbersStand s && goodNames (namesIn s) && leb 1 (length (namesIn s)) && endsAs (kindIn s) (restIn s) && okNumbers (numbersIn s)
 unfolding keepsMessage framed isMessage
 keeps-by s =
     let x = numbersIn s in
     let l = namesIn s in
     let m = mostNames (kindIn s) in
-    order (headStands s) (endsAs (kindIn s) (restIn s)) (isKind (x .kind)) (isEpoch (x .epoch)) (isAuthor (x .author)) (every nameFits l) (leb 1 (length l)) (leb (length l) m) (rising l) (isLine (x .kind) (x .line)) (le-leb (length l) m (names-few m (drop namesPlace s)))
+    order (numbersStand s) (endsAs (kindIn s) (restIn s)) (isKind (x .kind)) (isEpoch (x .epoch)) (isAuthor (x .author)) (every nameFits l) (leb 1 (length l)) (leb (length l) m) (rising l) (isLine (x .kind) (x .line)) (le-leb (length l) m (names-few m (drop namesPlace s)))
 
 -- what is told, by the answers to the tests
-pub telling-by : (s : Bytes) (h g w e o : Bool) → headStands s ≡ h → goodNames (namesIn s) ≡ g → leb 1 (length (namesIn s)) ≡ w → endsAs (kindIn s) (restIn s) ≡ e → okNumbers (numbersIn s) ≡ o → telling s ≡ ask (h && g && w && e && o) untold (allTold (numbersIn s) (length (namesIn s)))
+pub telling-by : (s : Bytes) (h g w e o : Bool) → numbersStand s ≡ h → goodNames (namesIn s) ≡ g → leb 1 (length (namesIn s)) ≡ w → endsAs (kindIn s) (restIn s) ≡ e → okNumbers (numbersIn s) ≡ o → telling s ≡ ask (h && g && w && e && o) untold (allTold (numbersIn s) (length (namesIn s)))
 unfolding telling
 telling-by s h g w e o p q r t u = ap (λ (b : Bool). ask b untold (allTold (numbersIn s) (length (namesIn s)))) (keeps-by s ∙ (λ i. p i && q i && r i && t i && u i))

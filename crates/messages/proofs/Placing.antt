@@ -88,10 +88,10 @@ module _ {s : Bytes} {c n : ℕ} {o₀ o : Bytes} {p i : ℕ} (v : Placing s c n
           fit = and-1 (nameFits here) (every nameFits after) all-fit;
           room = ap length e ∙ put-length o (slotSize * i) (omega arith) w (omega (arith, long)) ∙ v .room;
           stand =
-            (λ j. put (e j) (q j) (slotsWith after))
-            ∙ put-put o (slotSize * i) (omega arith) w (slotsWith after)
-            ∙ ap (put o (slotSize * i)) (sym (ap slotsWith next ∙ flat w (pieces (map bare after))))
-            ∙ v .stand;
+              (λ j. put (e j) (q j) (slotsWith after))
+              ∙ put-put o (slotSize * i) (omega arith) w (slotsWith after)
+              ∙ ap (put o (slotSize * i)) (sym (ap slotsWith next ∙ flat w (pieces (map bare after))))
+              ∙ v .stand;
         }
 
 -- ── reading ──

@@ -8,7 +8,7 @@ ghost use lib.Dec.{eqb};
 ghost use lib.ListN.{length, drop};
 ghost use Rattle.names.specs.Names.{limit, rowOf};
 ghost use Rattle.names.specs.Ordering.{compareRows, isLess, rising};
-ghost use Rattle.slots.specs.Bytes.{at32, bytes16, bytes32, tupleSize, every, put};
+ghost use Rattle.slots.specs.Bytes.{at32, bytes16, tupleSize, every, put};
 ghost use Rattle.slots.specs.Slots.{slotSize};
 ghost use Rattle.pages.specs.Answers.{ask, leaves};
 ghost use Rattle.pages.specs.Pages.{maxSlots, namesOf, pieces, keepsLayout};
@@ -220,7 +220,7 @@ fn name_in(message: &[u8], cursor: Cursor) -> Name
 }
 
 // The fields of kind, epoch and author stand one after the other from the cursor on.
-fn head_stands(message: &[u8], cursor: Cursor) -> bool
+fn numbers_stand(message: &[u8], cursor: Cursor) -> bool
     requires { ⌜ cursor .at ≤ length (now message) ⌝ }
     ensures { λ r. ⌜ r ≡ (stands kindTag kindSize (drop (cursor .at) (now (message .entry))) && stands epochTag pairSize (drop epochPlace (drop (cursor .at) (now (message .entry)))) && stands authorTag pairSize (drop authorPlace (drop (cursor .at) (now (message .entry))))) ⌝ }
 {
@@ -286,8 +286,18 @@ fn numbers_in(message: &[u8], cursor: Cursor, end: Cursor) -> Numbers
     ensures { λ r. ⌜ r ≡ numbersIn (drop (cursor .at) (now (message .entry))) ⌝ }
 {
     let kind = kind_in(message, cursor);
-    let epoch = pair_in(message, Cursor { at: cursor.at + EPOCH });
-    let author = pair_in(message, Cursor { at: cursor.at + AUTHOR });
+    let epoch = pair_in(
+        message,
+        Cursor {
+            at: cursor.at + EPOCH,
+        },
+    );
+    let author = pair_in(
+        message,
+        Cursor {
+            at: cursor.at + AUTHOR,
+        },
+    );
     let line = line_in(message, end, kind);
     Numbers {
         kind,
@@ -327,18 +337,34 @@ fn pass_names(message: &[u8], cursor: Cursor, most: usize) -> Passed
     let mut at = cursor.at;
     loop {
         if most <= names {
-            break Passed { good: true, names, at };
+            break Passed {
+                good: true,
+                names,
+                at,
+            };
         }
         let here = Cursor { at };
         if name_stands(message, here) {} else {
-            break Passed { good: true, names, at };
+            break Passed {
+                good: true,
+                names,
+                at,
+            };
         }
         if name_fits(message, here) {} else {
-            break Passed { good: false, names, at };
+            break Passed {
+                good: false,
+                names,
+                at,
+            };
         }
         let name = name_in(message, here);
         if is_above(name, last) {} else {
-            break Passed { good: false, names, at };
+            break Passed {
+                good: false,
+                names,
+                at,
+            };
         }
         let next = after_field(message, here);
         last = name;
@@ -350,7 +376,10 @@ fn pass_names(message: &[u8], cursor: Cursor, most: usize) -> Passed
 fn zeros() -> Numbers
     ensures { λ r. ⌜ r ≡ noNumbers ⌝ }
 {
-    let none = Author { node: 0, sequence: 0 };
+    let none = Author {
+        node: 0,
+        sequence: 0,
+    };
     Numbers {
         kind: 0,
         epoch: none,
@@ -396,9 +425,11 @@ fn tell(message: &[u8], cursor: Cursor) -> Told
     requires { ⌜ cursor .at ≤ length (now message) ⌝ }
     ensures { λ r. ⌜ r ≡ telling (drop (cursor .at) (now (message .entry))) ⌝ }
 {
-    if head_stands(message, cursor) {
+    if numbers_stand(message, cursor) {
         let kind = kind_in(message, cursor);
-        let first = Cursor { at: cursor.at + NAMES };
+        let first = Cursor {
+            at: cursor.at + NAMES,
+        };
         let passed = pass_names(message, first, most_names(kind));
         if passed.good {
             if passed.names < 1 {
@@ -486,7 +517,7 @@ fn write_u16(out: &mut [u8], p: usize, v: u16)
 }
 
 // A field's tag and length.
-fn write_head(out: &mut [u8], p: usize, tag: u8, size: u16)
+fn write_field_head(out: &mut [u8], p: usize, tag: u8, size: u16)
     requires { ⌜ p + fieldHead ≤ length (now out) ⌝ }
     ensures { λ _. ⌜ now (out .exit) ≡ put (now (out .entry)) p (tag ∷ bytes16 size) ⌝ }
 {
@@ -498,7 +529,7 @@ fn write_kind(out: &mut [u8], p: usize, kind: u8)
     requires { ⌜ p + (fieldHead + kindSize) ≤ length (now out) ⌝ }
     ensures { λ _. ⌜ now (out .exit) ≡ put (now (out .entry)) p (fieldBytes kindTag (kind ∷ [])) ⌝ }
 {
-    write_head(out, p, KIND_TAG, KIND as u16);
+    write_field_head(out, p, KIND_TAG, KIND as u16);
     out[p + FIELD] = kind;
 }
 
@@ -507,7 +538,7 @@ fn write_pair(out: &mut [u8], p: usize, tag: u8, x: Author)
     requires { ⌜ p + (fieldHead + pairSize) ≤ length (now out) ⌝ }
     ensures { λ _. ⌜ now (out .exit) ≡ put (now (out .entry)) p (fieldBytes tag (pairBytes x)) ⌝ }
 {
-    write_head(out, p, tag, PAIR as u16);
+    write_field_head(out, p, tag, PAIR as u16);
     write_u16(out, p + FIELD, x.node);
     slots::write_u32(out, p + FIELD + SEQUENCE, x.sequence);
 }
@@ -529,7 +560,7 @@ fn write_name(out: &mut [u8], p: usize, a: Name) -> usize
     ensures { λ r. ⌜ now (out .exit) ≡ put (now (out .entry)) p (nameField (rowOf a)) ⌝ }
 {
     let size = TUPLE * names::tuples_in(a);
-    write_head(out, p, NAME_TAG, size as u16);
+    write_field_head(out, p, NAME_TAG, size as u16);
     slots::write_row(out, p + FIELD, a);
     p + FIELD + size
 }
@@ -558,7 +589,7 @@ fn write_line(out: &mut [u8], p: usize, kind: u8, line: u32)
     ensures { λ _. ⌜ now (out .exit) ≡ put (now (out .entry)) p (flatten (lineFields kind line)) ⌝ }
 {
     if kind == INSERT {
-        write_head(out, p, LINE_TAG, LINE as u16);
+        write_field_head(out, p, LINE_TAG, LINE as u16);
         slots::write_u32(out, p + FIELD, line);
     }
 }

@@ -8,16 +8,16 @@ use borrow.Author.Tests.{le-leb, lt-leb}
 use Rattle.pages.specs.Answers.{ask}
 use Rattle.messages.specs.Messages.{endsAs, namesIn, numbersIn}
 use Rattle.messages.specs.Calls.{untold, allTold}
-use Rattle.messages.proofs.Passing.{goodNames, okNumbers, head-long, names-found, rest-found, telling-by}
+use Rattle.messages.proofs.Passing.{goodNames, okNumbers, numbers-long, names-found, rest-found, telling-by}
 use borrow.Author.Needs.{needs}
 use Rattle.messages.proofs.tell.Statement.{statement}
 use Rattle.messages.proofs.tell.Tie as tie
 
-head-stands-requires : tie.Need-head-stands-requires
-head-stands-requires c κs = search needs
+numbers-stand-requires : tie.Need-numbers-stand-requires
+numbers-stand-requires c κs = search needs
 
 kind-in-requires : tie.Need-kind-in-requires
-kind-in-requires c κs = let h = head-long (now (c .before .before .before .args .message)) (c .before .before .before .args .cursor .at) (sym (c .before .head-stands .ensures) ∙ c .if1 .taken) in omega arith
+kind-in-requires c κs = let h = numbers-long (now (c .before .before .before .args .message)) (c .before .before .before .args .cursor .at) (sym (c .before .numbers-stand .ensures) ∙ c .if1 .taken) in omega arith
 
 add-pass-names : tie.Need-add-pass-names
 add-pass-names c = search needs
@@ -26,7 +26,7 @@ most-names-requires : tie.Need-most-names-requires
 most-names-requires c κs = search needs
 
 pass-names-requires : tie.Need-pass-names-requires
-pass-names-requires c κs = let h = head-long (now (c .before .before .before .before .before .before .args .message)) (c .before .before .before .before .before .before .args .cursor .at) (sym (c .before .before .before .before .head-stands .ensures) ∙ c .before .before .before .if1 .taken) in omega arith
+pass-names-requires c κs = let h = numbers-long (now (c .before .before .before .before .before .before .args .message)) (c .before .before .before .before .before .before .args .cursor .at) (sym (c .before .before .before .before .numbers-stand .ensures) ∙ c .before .before .before .if1 .taken) in omega arith
 
 untold-requires : tie.Need-untold-requires
 untold-requires c κs = search needs
@@ -37,7 +37,7 @@ returns c =
     let p = c .before .before .before .before .before .before .before .before .before .before .before .args .cursor .at in
     let t = drop p s in
     let n = names-found s p (c .before .before .before .before .before .before .before .kind-in .ensures) (c .before .before .before .before .before .most-names .ensures) in
-    let h = sym (c .before .before .before .before .before .before .before .before .before .head-stands .ensures) ∙ c .before .before .before .before .before .before .before .before .if1 .taken in
+    let h = sym (c .before .before .before .before .before .before .before .before .before .numbers-stand .ensures) ∙ c .before .before .before .before .before .before .before .before .if1 .taken in
     let g = ap goodNames (sym n) ∙ sym (c .before .before .before .before .pass-names .ensures .0) ∙ c .before .before .before .if2 .taken in
     let z = c .before .before .before .before .pass-names .ensures .1 (c .before .before .before .if2 .taken) .0 ∙ ap length n in
     let w = lt-leb 1 (length (namesIn t)) (let y = c .before .if3 .taken in omega arith) in
@@ -50,7 +50,7 @@ numbers-in-requires : tie.Need-numbers-in-requires
 numbers-in-requires c κs =
     let s = now (c .before .before .before .before .before .before .before .before .before .before .before .before .args .message) in
     let p = c .before .before .before .before .before .before .before .before .before .before .before .before .args .cursor .at in
-    let h = head-long s p (sym (c .before .before .before .before .before .before .before .before .before .before .head-stands .ensures) ∙ c .before .before .before .before .before .before .before .before .before .if1 .taken) in
+    let h = numbers-long s p (sym (c .before .before .before .before .before .before .before .before .before .before .numbers-stand .ensures) ∙ c .before .before .before .before .before .before .before .before .before .if1 .taken) in
     let r = c .before .before .before .before .before .pass-names .ensures .1 (c .before .before .before .before .if2 .taken) .1 ∙ rest-found s p (c .before .before .before .before .before .before .before .before .kind-in .ensures) (c .before .before .before .before .before .before .most-names .ensures) in
     ((h, r), (λ i. endsAs (sym (c .before .before .before .before .before .before .before .before .kind-in .ensures) i) (sym r i)) ∙ sym (c .before .ends .ensures) ∙ c .if4 .taken)
 
@@ -73,7 +73,7 @@ returns-2 c =
     let t = drop p s in
     let n = names-found s p (c .before .before .before .before .before .before .before .before .before .before .kind-in .ensures) (c .before .before .before .before .before .before .before .before .most-names .ensures) in
     let r = c .before .before .before .before .before .before .before .pass-names .ensures .1 (c .before .before .before .before .before .before .if2 .taken) .1 ∙ rest-found s p (c .before .before .before .before .before .before .before .before .before .before .kind-in .ensures) (c .before .before .before .before .before .before .before .before .most-names .ensures) in
-    let h = sym (c .before .before .before .before .before .before .before .before .before .before .before .before .head-stands .ensures) ∙ c .before .before .before .before .before .before .before .before .before .before .before .if1 .taken in
+    let h = sym (c .before .before .before .before .before .before .before .before .before .before .before .before .numbers-stand .ensures) ∙ c .before .before .before .before .before .before .before .before .before .before .before .if1 .taken in
     let g = ap goodNames (sym n) ∙ sym (c .before .before .before .before .before .before .before .pass-names .ensures .0) ∙ c .before .before .before .before .before .before .if2 .taken in
     let z = c .before .before .before .before .before .before .before .pass-names .ensures .1 (c .before .before .before .before .before .before .if2 .taken) .0 ∙ ap length n in
     let w = le-leb 1 (length (namesIn t)) (let y = c .before .before .before .before .if3 .left in omega arith) in
@@ -88,7 +88,7 @@ returns-3 c =
     let t = drop p s in
     let n = names-found s p (c .before .before .before .before .before .before .before .before .before .kind-in .ensures) (c .before .before .before .before .before .before .before .most-names .ensures) in
     let r = c .before .before .before .before .before .before .pass-names .ensures .1 (c .before .before .before .before .before .if2 .taken) .1 ∙ rest-found s p (c .before .before .before .before .before .before .before .before .before .kind-in .ensures) (c .before .before .before .before .before .before .before .most-names .ensures) in
-    let h = sym (c .before .before .before .before .before .before .before .before .before .before .before .head-stands .ensures) ∙ c .before .before .before .before .before .before .before .before .before .before .if1 .taken in
+    let h = sym (c .before .before .before .before .before .before .before .before .before .before .before .numbers-stand .ensures) ∙ c .before .before .before .before .before .before .before .before .before .before .if1 .taken in
     let g = ap goodNames (sym n) ∙ sym (c .before .before .before .before .before .before .pass-names .ensures .0) ∙ c .before .before .before .before .before .if2 .taken in
     let z = c .before .before .before .before .before .before .pass-names .ensures .1 (c .before .before .before .before .before .if2 .taken) .0 ∙ ap length n in
     let w = le-leb 1 (length (namesIn t)) (let y = c .before .before .before .if3 .left in omega arith) in
@@ -100,21 +100,21 @@ returns-4 c =
     let s = now (c .before .before .before .before .before .before .before .before .before .args .message) in
     let p = c .before .before .before .before .before .before .before .before .before .args .cursor .at in
     let n = names-found s p (c .before .before .before .before .before .kind-in .ensures) (c .before .before .before .most-names .ensures) in
-    let h = sym (c .before .before .before .before .before .before .before .head-stands .ensures) ∙ c .before .before .before .before .before .before .if1 .taken in
+    let h = sym (c .before .before .before .before .before .before .before .numbers-stand .ensures) ∙ c .before .before .before .before .before .before .if1 .taken in
     let g = ap goodNames (sym n) ∙ sym (c .before .before .pass-names .ensures .0) ∙ c .before .if2 .left in
     c .untold3 .ensures ∙ sym (telling-by (drop p s) true false _ _ _ h g refl refl refl)
 
 returns-5 : tie.Need-returns-5
 returns-5 c =
     let t = drop (c .before .before .before .before .args .cursor .at) (now (c .before .before .before .before .args .message)) in
-    let h = sym (c .before .before .head-stands .ensures) ∙ c .before .if1 .left in
+    let h = sym (c .before .before .numbers-stand .ensures) ∙ c .before .if1 .left in
     c .untold4 .ensures ∙ sym (telling-by t false _ _ _ _ h refl refl refl refl)
 
 pub tell-spec : {M : Type 1} → statement M
 tell-spec =
     tie.close
     (tie.spec
-    head-stands-requires
+    numbers-stand-requires
     kind-in-requires
     add-pass-names
     most-names-requires

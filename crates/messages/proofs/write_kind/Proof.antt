@@ -13,11 +13,11 @@ use borrow.Author.Needs.{needs}
 use Rattle.messages.proofs.write_kind.Statement.{statement}
 use Rattle.messages.proofs.write_kind.Tie as tie
 
-cast-write-head : tie.Need-cast-write-head
-cast-write-head c = search needs
+cast-write-field-head : tie.Need-cast-write-field-head
+cast-write-field-head c = search needs
 
-write-head-requires : tie.Need-write-head-requires
-write-head-requires c κs = search needs
+write-field-head-requires : tie.Need-write-field-head-requires
+write-field-head-requires c κs = search needs
 
 add-out : tie.Need-add-out
 add-out c = search needs
@@ -33,11 +33,11 @@ returns c =
     let o = now (c .before .before .before .before .before .args .out) in
     let p = c .before .before .before .before .before .args .p in
     let k = c .before .before .before .before .before .args .kind in
-    let d = c .before .before .write-head .last .0 in
-    let l = c .before .before .write-head .kept .0 in
-    put-more o p (omega arith) (kindTag ∷ bytes16 kindSize) (k ∷ []) (c .before .before .write-head .ensures) refl (sets-eq (k ∷ []) d (p + fieldHead) (omega arith))
+    let d = c .before .before .write-field-head .last .0 in
+    let l = c .before .before .write-field-head .kept .0 in
+    put-more o p (omega arith) (kindTag ∷ bytes16 kindSize) (k ∷ []) (c .before .before .write-field-head .ensures) refl (sets-eq (k ∷ []) d (p + fieldHead) (omega arith))
 
 pub write-kind-spec : {M : Type 1} → statement M
 write-kind-spec =
     tie.close
-    (tie.spec cast-write-head write-head-requires add-out slice-write-out same-length returns)
+    (tie.spec cast-write-field-head write-field-head-requires add-out slice-write-out same-length returns)

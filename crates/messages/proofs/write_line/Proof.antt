@@ -12,17 +12,17 @@ use borrow.Author.Needs.{needs}
 use Rattle.messages.proofs.write_line.Statement.{statement}
 use Rattle.messages.proofs.write_line.Tie as tie
 
-cast-write-head : tie.Need-cast-write-head
-cast-write-head c = search needs
+cast-write-field-head : tie.Need-cast-write-field-head
+cast-write-field-head c = search needs
 
-write-head-requires : tie.Need-write-head-requires
-write-head-requires c κs = let l = ap length (line-there (c .before .before .before .args .kind) (c .before .before .before .args .line) (c .before .if1 .taken)) in omega arith
+write-field-head-requires : tie.Need-write-field-head-requires
+write-field-head-requires c κs = let l = ap length (line-there (c .before .before .before .args .kind) (c .before .before .before .args .line) (c .before .if1 .taken)) in omega arith
 
 add-write-u32 : tie.Need-add-write-u32
 add-write-u32 c = search needs
 
 write-u32-requires : tie.Need-write-u32-requires
-write-u32-requires c κs = let l = ap length (line-there (c .before .before .before .before .before .before .before .args .kind) (c .before .before .before .before .before .before .before .args .line) (c .before .before .before .before .before .if1 .taken)) in let k = c .before .before .before .write-head .kept .0 in omega arith
+write-u32-requires c κs = let l = ap length (line-there (c .before .before .before .before .before .before .before .args .kind) (c .before .before .before .before .before .before .before .args .line) (c .before .before .before .before .before .if1 .taken)) in let k = c .before .before .before .write-field-head .kept .0 in omega arith
 
 same-length : tie.Need-same-length
 same-length c = search needs
@@ -33,7 +33,7 @@ returns c =
     let p = c .before .before .before .before .before .before .before .before .before .before .args .p in
     let e = line-there (c .before .before .before .before .before .before .before .before .before .before .args .kind) (c .before .before .before .before .before .before .before .before .before .before .args .line) (c .before .before .before .before .before .before .before .before .if1 .taken) in
     let l = ap length e in
-    put-more o p (omega arith) (lineTag ∷ bytes16 lineSize) (bytes32 (c .before .before .before .before .before .before .before .before .before .before .args .line)) (c .before .before .before .before .before .before .write-head .ensures) refl (c .before .before .write-u32 .ensures) ∙ ap (put o p) (sym e)
+    put-more o p (omega arith) (lineTag ∷ bytes16 lineSize) (bytes32 (c .before .before .before .before .before .before .before .before .before .before .args .line)) (c .before .before .before .before .before .before .write-field-head .ensures) refl (c .before .before .write-u32 .ensures) ∙ ap (put o p) (sym e)
 
 returns-2 : tie.Need-returns-2
 returns-2 c =
@@ -44,8 +44,8 @@ pub write-line-spec : {M : Type 1} → statement M
 write-line-spec =
     tie.close
     (tie.spec
-    cast-write-head
-    write-head-requires
+    cast-write-field-head
+    write-field-head-requires
     add-write-u32
     write-u32-requires
     same-length

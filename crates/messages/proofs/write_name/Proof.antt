@@ -21,17 +21,17 @@ tuples-in-requires c κs = search needs
 mul-size : tie.Need-mul-size
 mul-size c = search needs
 
-cast-write-head : tie.Need-cast-write-head
-cast-write-head c = search needs
+cast-write-field-head : tie.Need-cast-write-field-head
+cast-write-field-head c = search needs
 
-write-head-requires : tie.Need-write-head-requires
-write-head-requires c κs = search needs
+write-field-head-requires : tie.Need-write-field-head-requires
+write-field-head-requires c κs = search needs
 
 add-write-row : tie.Need-add-write-row
 add-write-row c = search needs
 
 write-row-requires : tie.Need-write-row-requires
-write-row-requires c κs = let l = name-length (rowOf (c .before .before .before .before .before .before .before .args .a)) in let k = c .before .before .before .write-head .kept .0 in omega arith
+write-row-requires c κs = let l = name-length (rowOf (c .before .before .before .before .before .before .before .args .a)) in let k = c .before .before .before .write-field-head .kept .0 in omega arith
 
 add-result : tie.Need-add-result
 add-result c = search needs
@@ -51,7 +51,7 @@ returns c =
     let size = tupleSize * c .before .before .before .before .before .before .before .before .tuples-in .result in
     let e : size ≡ length (rowBytes a) = let r = row-length a in let t = c .before .before .before .before .before .before .before .before .tuples-in .ensures .0 in omega arith in
     let t = c .before .before .before .before .before .before .before .before .tuples-in .ensures .0 in
-    (omega arith, put-more o p (omega arith) (nameTag ∷ bytes16 size) (rowBytes a) (c .before .before .before .before .before .before .write-head .ensures) refl (c .before .before .write-row .ensures) ∙ ap (λ (n : ℕ). put o p ((nameTag ∷ bytes16 n) ++ rowBytes a)) e)
+    (omega arith, put-more o p (omega arith) (nameTag ∷ bytes16 size) (rowBytes a) (c .before .before .before .before .before .before .write-field-head .ensures) refl (c .before .before .write-row .ensures) ∙ ap (λ (n : ℕ). put o p ((nameTag ∷ bytes16 n) ++ rowBytes a)) e)
 
 pub write-name-spec : {M : Type 1} → statement M
 write-name-spec =
@@ -59,8 +59,8 @@ write-name-spec =
     (tie.spec
     tuples-in-requires
     mul-size
-    cast-write-head
-    write-head-requires
+    cast-write-field-head
+    write-field-head-requires
     add-write-row
     write-row-requires
     add-result

@@ -13,11 +13,11 @@ use borrow.Author.Needs.{needs}
 use Rattle.messages.proofs.write_pair.Statement.{statement}
 use Rattle.messages.proofs.write_pair.Tie as tie
 
-cast-write-head : tie.Need-cast-write-head
-cast-write-head c = search needs
+cast-write-field-head : tie.Need-cast-write-field-head
+cast-write-field-head c = search needs
 
-write-head-requires : tie.Need-write-head-requires
-write-head-requires c κs = search needs
+write-field-head-requires : tie.Need-write-field-head-requires
+write-field-head-requires c κs = search needs
 
 add-write-u16 : tie.Need-add-write-u16
 add-write-u16 c = search needs
@@ -44,7 +44,7 @@ returns c =
     let x = c .before .before .before .before .before .before .before .before .before .before .before .before .before .args .x in
     let h : p ≤ length o = omega arith in
     let head = c .before .before .before .before .before .before .before .before .before .before .before .before .before .args .tag ∷ bytes16 pairSize in
-    let d = put-more o p h head (bytes16 (x .node)) (c .before .before .before .before .before .before .before .before .before .before .write-head .ensures) refl (c .before .before .before .before .before .before .write-u16 .ensures) in
+    let d = put-more o p h head (bytes16 (x .node)) (c .before .before .before .before .before .before .before .before .before .before .write-field-head .ensures) refl (c .before .before .before .before .before .before .write-u16 .ensures) in
     let q : p + fieldHead + 2 ≡ p + length (head ++ bytes16 (x .node)) = omega arith in
     put-more o p h (head ++ bytes16 (x .node)) (bytes32 (x .sequence)) d q (c .before .before .write-u32 .ensures)
 
@@ -52,8 +52,8 @@ pub write-pair-spec : {M : Type 1} → statement M
 write-pair-spec =
     tie.close
     (tie.spec
-    cast-write-head
-    write-head-requires
+    cast-write-field-head
+    write-field-head-requires
     add-write-u16
     write-u16-requires
     add-write-u32

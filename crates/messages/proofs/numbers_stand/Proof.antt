@@ -1,4 +1,4 @@
--- `messages::head_stands` meets its contract. Assumes nothing.
+-- `messages::numbers_stand` meets its contract. Assumes nothing.
 use mathlib.Core.Path.{_≡_, _∙_, sym, ap}
 use Prim.Native.Nat.{ℕ, _+_}
 use native.Mathlib.Omega.{arith}
@@ -9,8 +9,8 @@ use Rattle.messages.specs.Fields.{stands}
 use Rattle.messages.specs.Messages.{kindTag, epochTag, authorTag, kindSize, pairSize, epochPlace, authorPlace}
 use Rattle.messages.proofs.Walk.{stands-long}
 use borrow.Author.Needs.{needs}
-use Rattle.messages.proofs.head_stands.Statement.{statement}
-use Rattle.messages.proofs.head_stands.Tie as tie
+use Rattle.messages.proofs.numbers_stand.Statement.{statement}
+use Rattle.messages.proofs.numbers_stand.Tie as tie
 
 field-stands-requires : tie.Need-field-stands-requires
 field-stands-requires c κs = search needs
@@ -72,8 +72,8 @@ returns-3 c =
     let h = sym (c .before .field-stands .ensures) ∙ c .if1 .left in
     sym (rw h)
 
-pub head-stands-spec : {M : Type 1} → statement M
-head-stands-spec =
+pub numbers-stand-spec : {M : Type 1} → statement M
+numbers-stand-spec =
     tie.close
     (tie.spec
     field-stands-requires

@@ -1,4 +1,4 @@
--- `messages::write_head` meets its contract. Assumes nothing.
+-- `messages::write_field_head` meets its contract. Assumes nothing.
 use mathlib.Core.Path.{refl, _∙_}
 use mathlib.Core.List.{[], _∷_}
 use native.Mathlib.Omega.{arith}
@@ -8,8 +8,8 @@ use lib.Seq.{sets-eq}
 use Rattle.slots.specs.Bytes.{bytes16}
 use Rattle.slots.proofs.Put.{put-more}
 use borrow.Author.Needs.{needs}
-use Rattle.messages.proofs.write_head.Statement.{statement}
-use Rattle.messages.proofs.write_head.Tie as tie
+use Rattle.messages.proofs.write_field_head.Statement.{statement}
+use Rattle.messages.proofs.write_field_head.Tie as tie
 
 slice-write-out : tie.Need-slice-write-out
 slice-write-out c = search needs
@@ -30,6 +30,6 @@ returns c =
     let t = c .before .before .before .before .before .args .tag in
     put-more o p (omega arith) (t ∷ []) (bytes16 (c .before .before .before .before .before .args .size)) (sets-eq (t ∷ []) o p (omega arith)) refl (c .before .before .write-u16 .ensures)
 
-pub write-head-spec : {M : Type 1} → statement M
-write-head-spec =
+pub write-field-head-spec : {M : Type 1} → statement M
+write-field-head-spec =
     tie.close (tie.spec slice-write-out add-write-u16 write-u16-requires same-length returns)
