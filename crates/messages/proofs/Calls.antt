@@ -59,6 +59,10 @@ bare-slots (a ∷ l) e = λ i. and-0 (nameFits a) (every nameFits l) e i && bare
 
 -- ── reading what was written ──
 
+-- slots that may be written keep their layout
+pub may-layout : (x : Numbers) (slots : Bytes) → mayWrite x slots ≡ true → keepsLayout slots ≡ true
+may-layout x slots h = and-0 (keepsLayout slots) (isMessage (partsGiven x slots)) (and-0 (keepsLayout slots && isMessage (partsGiven x slots)) (every lineIsZero (slotsOf slots)) h)
+
 module _ (x : Numbers) (slots : Bytes) (room n : ℕ) (h : writing x slots room .answer ≡ Accepted n) where
   abbrev given : Parts
   given = partsGiven x slots
@@ -68,7 +72,7 @@ module _ (x : Numbers) (slots : Bytes) (room n : ℕ) (h : writing x slots room 
   passed = asked (mayWrite x slots) Malformed (write (map single (messageBytes given)) room) n h
 
   layout : keepsLayout slots ≡ true
-  layout = and-0 (keepsLayout slots) (isMessage given) (and-0 (keepsLayout slots && isMessage given) (every lineIsZero (slotsOf slots)) (passed .0))
+  layout = may-layout x slots (passed .0)
 
   message : isMessage given ≡ true
   message = and-1 (keepsLayout slots) (isMessage given) (and-0 (keepsLayout slots && isMessage given) (every lineIsZero (slotsOf slots)) (passed .0))

@@ -1,7 +1,7 @@
 -- A field at the beginning of some bytes: what is written is read back (`size-back`, `after-back`, `stands-back`), and where
 -- one stands the bytes begin with its writing (`field-there`). Assumes nothing.
 use mathlib.Core.Path.{_≡_, refl, sym, ap, _∙_}
-use mathlib.Core.List.{[], _∷_, _++_}
+use mathlib.Core.List.{[], _∷_, _++_, flatten, append-nil}
 use mathlib.Core.Bool.{true, _&&_}
 use Prim.Native.Nat.{ℕ, _+_, _<_, _≤_}
 use native.Mathlib.Omega.{arith}
@@ -12,9 +12,13 @@ use lib.Seq.{drop-cons, drop-at}
 use Rattle.names.proofs.Laws.{and-0, and-1}
 use Rattle.slots.specs.Bytes.{Bytes, Octets, bytes16}
 use Rattle.slots.proofs.RoundTrip.{next-to, here16}
+use Rattle.pages.proofs.RoundTrip.{flat, flat-none}
 use Rattle.messages.specs.Fields.{fieldHead, tagIn, sizeIn, afterField, stands, fieldBytes}
 
 -- ── from a field and back ──
+
+pub flat-one : (f : Bytes) → flatten (f ∷ []) ≡ f
+flat-one f = flat f [] ∙ ap (λ (r : Bytes). f ++ r) flat-none ∙ append-nil f
 
 pub field-length : (tag : ℕ) (content : Bytes) → length (fieldBytes tag content) ≡ fieldHead + length content
 field-length tag content = omega arith

@@ -1,8 +1,8 @@
 -- A message written: the fields of the names one after the other (`Filling`, a loop's invariant), their sizes (`size-next`), and writing by
 -- the code's tests (`write-malformed`, `write-short`, `write-done`). Assumes nothing.
 use mathlib.Core.Path.{_≡_, refl, sym, ap, _∙_}
-use mathlib.Core.List.{List, [], _∷_, _++_, map, flatten, append-nil}
-use mathlib.Core.Bool.{Bool, true, false, cond, _&&_}
+use mathlib.Core.List.{List, [], _∷_, map, flatten}
+use mathlib.Core.Bool.{Bool, true, false, cond}
 use Prim.Native.Nat.{ℕ, _+_, _*_, _/_, _<_, _≤_, min}
 use native.Mathlib.Numerals.{add-one}
 use native.Mathlib.Omega.{arith}
@@ -11,21 +11,21 @@ use lib.ListN.{length, drop, length-append, length-take, length-map, drop-of-len
 use lib.Seq.{drop-cons}
 use Rattle.names.specs.Ordering.{Row}
 use Rattle.names.specs.Names.{limit}
-use Rattle.names.proofs.Laws.{and-0}
-use Rattle.slots.specs.Bytes.{Bytes, bytes32, tupleSize, tuplesAt, every, put}
+use Rattle.slots.specs.Bytes.{Bytes, bytes32, tupleSize, tuplesAt, put}
 use Rattle.slots.specs.Slots.{slotSize, headSize, depthOf, nameOf}
 use Rattle.slots.proofs.Put.{put-put, put-length, put-none}
 use Rattle.pages.specs.declared.Refusal.the-variants.{Malformed, Short}
 use Rattle.pages.specs.declared.Answer.the-variants.{Accepted}
 use Rattle.pages.specs.Answers.{ask, refuse, write}
-use Rattle.pages.specs.Pages.{slotsOf, namesOf, keepsLayout, lineIsZero}
+use Rattle.pages.specs.Pages.{namesOf}
 use Rattle.pages.proofs.Parts.{lent, lent-name, length-names}
 use Rattle.pages.proofs.RoundTrip.{flat, flat-none}
 use Rattle.pages.proofs.Outcomes.{writes, writes-short}
 use Rattle.messages.specs.declared.Numbers.{Numbers}
 use Rattle.messages.specs.Fields.{fieldHead, fieldBytes}
-use Rattle.messages.specs.Messages.{insert, lineTag, isMessage, nameField, lineFields, messageBytes}
+use Rattle.messages.specs.Messages.{insert, lineTag, nameField, lineFields, messageBytes}
 use Rattle.messages.specs.Calls.{partsGiven, single, mayWrite, writing}
+use Rattle.messages.proofs.Fields.{flat-one}
 use Rattle.messages.proofs.Calls.{flat-single}
 use Rattle.messages.proofs.Longest.{names-cons}
 
@@ -102,17 +102,12 @@ module _ (kind line : ℕ) where
   line-there e =
       let f = fieldBytes lineTag (bytes32 line) in
       ap (λ (b : Bool). flatten (cond b (f ∷ []) [])) (eq-eqb kind insert e)
-      ∙ flat f []
-      ∙ ap (λ (r : Bytes). f ++ r) flat-none
-      ∙ append-nil f
+      ∙ flat-one f
 
   pub line-absent : ¬ (kind ≡ insert) → flatten (lineFields kind line) ≡ []
   line-absent e = ap (λ (b : Bool). flatten (cond b (fieldBytes lineTag (bytes32 line) ∷ []) [])) (ne-eqb kind insert e) ∙ flat-none
 
 -- ── writing ──
-
-pub may-layout : (x : Numbers) (slots : Bytes) → mayWrite x slots ≡ true → keepsLayout slots ≡ true
-may-layout x slots h = and-0 (keepsLayout slots) (isMessage (partsGiven x slots)) (and-0 (keepsLayout slots && isMessage (partsGiven x slots)) (every lineIsZero (slotsOf slots)) h)
 
 module _ (x : Numbers) (slots : Bytes) (room : ℕ) where
   abbrev w : Bytes

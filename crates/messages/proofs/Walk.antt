@@ -114,7 +114,7 @@ module _ (s : Bytes) (p most k : ℕ) (h : k < most) (e : nameStands (drop p s) 
       ∙ after-turn (drop p s) (most - (k + 1)) e
       ∙ ap (afterNames (most - (k + 1))) (drop-drop (fieldHead + sizeIn (drop p s)) p s)
 
--- how many names there are
+-- no more names than are asked for
 pub names-few : (most : ℕ) (s : Bytes) → length (namesWithin most s) ≤ most
 names-few zero s = omega arith
 names-few (suc most) s = go (nameStands s) (names-few most (afterField s))
@@ -123,7 +123,7 @@ names-few (suc most) s = go (nameStands s) (names-few most (afterField s))
     go true h = omega arith
     go false h = omega arith
 
--- as many as there are
+-- asked for as many as there are
 pub names-exact : (most : ℕ) (s : Bytes) → namesWithin (length (namesWithin most s)) s ≡ namesWithin most s
 names-exact zero s = refl
 names-exact (suc most) s = go (nameStands s) refl (names-exact most (afterField s))

@@ -15,7 +15,7 @@ use Rattle.slots.proofs.RoundTrip.{next-to, here16, here32, here-row}
 use Rattle.pages.proofs.RoundTrip.{octets-drop, flat, flat-none}
 use Rattle.messages.specs.Fields.{fieldHead, sizeIn, afterField, stands, fieldBytes}
 use Rattle.messages.specs.Messages.{insert, kindTag, epochTag, authorTag, nameTag, lineTag, kindSize, pairSize, lineSize, mostNames, pairBytes, nameField, messageBytes, epochPlace, authorPlace, namesPlace, pairIn, kindIn, nameStands, tuplesIn, namesWithin, afterNames, restIn, partsIn, nothing, keepsMessage}
-use Rattle.messages.proofs.Fields.{Standing, standing, field-there}
+use Rattle.messages.proofs.Fields.{flat-one, Standing, standing, field-there}
 use Rattle.messages.proofs.Facts.{frame}
 use Rattle.messages.proofs.ReadBack.{tail, split}
 
@@ -89,9 +89,7 @@ module _ (r : Bytes) (k : Octets r) where
   end-there false e = flat-none ∙ sym (is-nothing r e)
   end-there true e =
       let f = fieldBytes lineTag (bytes32 (at32 r fieldHead)) in
-      flat f []
-      ∙ ap (λ (x : Bytes). f ++ x) flat-none
-      ∙ append-nil f
+      flat-one f
       ∙ line-bytes (standing lineTag lineSize r (and-0 (stands lineTag lineSize r) (nothing (afterField r)) e)) (and-1 (stands lineTag lineSize r) (nothing (afterField r)) e)
 
 -- ── the message ──

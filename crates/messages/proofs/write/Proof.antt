@@ -9,7 +9,8 @@ use Rattle.pages.specs.declared.Refusal.the-variants.{Malformed, Short}
 use Rattle.pages.proofs.Outcomes.{refused, accepted}
 use Rattle.messages.specs.Messages.{messageBytes}
 use Rattle.messages.specs.Calls.{partsGiven, writing}
-use Rattle.messages.proofs.Filling.{may-layout, write-malformed, write-short, write-done}
+use Rattle.messages.proofs.Calls.{may-layout}
+use Rattle.messages.proofs.Filling.{write-malformed, write-short, write-done}
 use borrow.Author.Needs.{needs}
 use Rattle.messages.proofs.write.Statement.{statement}
 use Rattle.messages.proofs.write.Tie as tie
