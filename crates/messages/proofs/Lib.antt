@@ -11,3 +11,5 @@ pub mod Logs
 pub mod Placing
 pub mod Filling
 pub mod Settled
+pub mod Thin
+pub mod Held

@@ -146,3 +146,8 @@ keeps-by s =
 pub telling-by : (s : Bytes) (h g w e o : Bool) → numbersStand s ≡ h → goodNames (namesIn s) ≡ g → leb 1 (length (namesIn s)) ≡ w → endsAs (kindIn s) (restIn s) ≡ e → okNumbers (numbersIn s) ≡ o → telling s ≡ ask (h && g && w && e && o) untold (allTold (numbersIn s) (length (namesIn s)))
 unfolding telling
 telling-by s h g w e o p q r t u = ap (λ (b : Bool). ask b untold (allTold (numbersIn s) (length (namesIn s)))) (keeps-by s ∙ (λ i. p i && q i && r i && t i && u i))
+
+-- no bytes are no message
+pub told-nothing : telling [] ≡ untold
+unfolding telling keepsMessage framed
+told-nothing = refl

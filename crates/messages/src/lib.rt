@@ -449,6 +449,48 @@ fn tell(message: &[u8], cursor: Cursor) -> Told
     }
 }
 
+// The same from any place; beyond the end there is no message.
+fn tell_from(message: &[u8], cursor: Cursor) -> Told
+    ensures { λ r. ⌜ r ≡ telling (drop (cursor .at) (now (message .entry))) ⌝ }
+{
+    if cursor.at <= message.len() {
+        return tell(message, cursor);
+    }
+    untold()
+}
+
+// ── the reader ──
+
+// "a reader that holds the bytes and its place"
+struct Reader<'a> {
+    message: &'a [u8],
+    cursor: Cursor,
+}
+
+// A reader at the beginning of a message.
+fn reader_of<'a>(message: &'a [u8]) -> Reader<'a>
+    ensures { λ r. ⌜ (r .message ≡ message .entry) × (r .cursor .at ≡ 0) ⌝ }
+{
+    Reader {
+        message,
+        cursor: Cursor { at: 0 },
+    }
+}
+
+// What a message says that stands at the reader's place.
+fn told_here<'a>(r: Reader<'a>) -> Told
+    ensures { λ t. ⌜ t ≡ telling (drop (r .entry .cursor .at) (now (r .entry .message))) ⌝ }
+{
+    tell_from(r.message, r.cursor)
+}
+
+// What a message says, by a reader.
+fn told_of(message: &[u8]) -> Told
+    ensures { λ r. ⌜ r ≡ telling (now (message .entry)) ⌝ }
+{
+    told_here(reader_of(message))
+}
+
 // ── the second pass ──
 
 // "the names, in slots with line number 0": the n names whose fields stand from the cursor on, from the start of out.
@@ -489,7 +531,7 @@ pub fn read(message: &[u8], out: &mut [u8]) -> Reading
     ensures { λ r. ⌜ (r .answer ≡ reading (now (message .entry)) (length (now (out .entry))) .answer) × (r .numbers ≡ numbersRead (now (message .entry)) (length (now (out .entry)))) ⌝ }
     ensures { λ r. ⌜ now (out .exit) ≡ leaves (reading (now (message .entry)) (length (now (out .entry)))) (now (out .entry)) ⌝ }
 {
-    let told = tell(message, Cursor { at: 0 });
+    let told = told_of(message);
     if told.ok {
         if out.len() / SLOT < told.names {
             return unread(Refusal::Short);
