@@ -1,15 +1,23 @@
 -- What the proofs by hand have of a `Reader`, of its bytes and of its place, said once.
---     Bytes, B         the type of the bytes and the type of a reader, over a signature's lifetimes.        D, L      the reader's description and its laws
---     bytesVal         the machine value that the bytes have
---     OwnBytes, OwnPlace, Own      what the bytes own;  what a place owns;  what a reader owns.        Held      what a reader's bytes and its place own, as a function that is passed the two has them
---     Typed, TypedBytes    the machine value of a reader, and of bytes, that were passed has the type that the signature writes.        typed, typed-bytes      it does.        typed-here      the same of a reader in a local of a body, where MIR erases the lifetime's name.        typed-place      a place's
---     twice            a reader is Copy: what it owns is had twice.        bytes-twice, place-twice      the bytes' and a place's
---     opened, together     what a reader owns gives what its bytes and its place own, and back
---     remade           what a reader owns, with what a place owns, gives what the reader of the same bytes at that place owns
---     apart            what a function that takes a reader has at entry gives what one that takes the bytes and the place asks, and what the reader owns is kept
---     lent             what a function that takes the bytes has at entry gives what another that takes them asks, and what the bytes own is kept
---     passed-on        what a reader owns, with the token, is what a function that takes a reader asks
---     reader-meets, bytes-meets    `Thin.antt`'s `meets` for a function whose one parameter is a reader, and for one whose parameter is the bytes, from a walk with `Typed`, and with `TypedBytes`, in hand
+--   Bytes, B               the type of the bytes and the type of a reader, over a signature's lifetimes
+--   D, L                   the reader's description and its laws
+--   bytesVal               the machine value that the bytes have
+--   OwnBytes, Own          what the bytes own;  what a reader owns
+--   Held                   what a reader's bytes and its place own, as a function that is passed the two has them
+--   Typed, TypedBytes      the machine value of a reader, and of bytes, that were passed has the type that the signature writes
+--   typed, typed-bytes     it does
+--   typed-here             the same of a reader in a local of a body, where MIR erases the lifetime's name
+--   typed-place            a place's
+--   twice                  a reader is Copy: what it owns is had twice
+--   bytes-twice            the bytes'
+--   opened, together       what a reader owns gives what its bytes and its place own, and back
+--   apart                  what a function that takes a reader has at entry gives what one that takes the bytes and the place asks, and
+--                          what the reader owns is kept
+--   lent                   what a function that takes the bytes has at entry gives what another that takes them asks, and what the bytes
+--                          own is kept
+--   passed-on              what a reader owns, with the token, is what a function that takes a reader asks
+--   reader-, bytes-meets   `Thin.antt`'s `meets` for a function whose one parameter is a reader, and for one whose parameter is the bytes,
+--                          from a walk with `Typed`, and with `TypedBytes`, in hand
 -- The laws take `Given`. The rest assumes nothing.
 use mathlib.Core.Path.{_≡_, refl}
 use Prim.Native.Nat.{ℕ}
@@ -35,7 +43,7 @@ use denote.Slice.{sliceTy, sliceVal, ShrSlice, shr-slice-tells, shr-slice-lawful
 use denote.Steps.{nothing}
 use denote.Struct.Declared.{Declared}
 use denote.Struct.Laws as LL
-use denote.Struct.Rest.{own-open, own-shut, own-put}
+use denote.Struct.Rest.{own-open, own-shut}
 use denote.Triple.Spec.{Meets}
 use denote.Triple.Clauses.{Clauses, closing}
 use Rattle.messages.specs.declared.Cursor.{Cursor}
@@ -67,9 +75,6 @@ Typed d = Holds (hasTy (T′.mir (named 0)) (T′.lowered d)) × WT (T′.lowere
 abbrev pub TypedBytes : RefT (List ℕ) → Type 0
 TypedBytes s = Holds (hasTy (sliceTy (tyRef (named 0) imm (tyInt w8))) (bytesVal s)) × WT (bytesVal s)
 
-abbrev pub OwnPlace : Cursor → Fml
-OwnPlace c = P.the-row .own c (P′.lowered c ∷ [])
-
 module _ (κ : Lft) where
   abbrev pub OwnBytes : RefT (List ℕ) → Fml
   OwnBytes s = Bytes (κ, tt) .own s (bytesVal s ∷ [])
@@ -83,9 +88,6 @@ module _ (κ : Lft) where
 module _ {M : Type 1} (𝓤 : URA M) (H : Heap 𝓤) (A : Atoms 𝓤) (W : Given 𝓤 H A) where
   pub typed-place : (c : Cursor) → Is P.the-row c (P′.lowered c ∷ []) → Holds (hasTy P′.mir (P′.lowered c)) × WT (P′.lowered c)
   typed-place c p = LL.lawful P.the-type P′.the-laws 𝓤 H A W .typed c (P′.lowered c ∷ []) p .0
-
-  pub place-twice : (c : Cursor) → ent 𝓤 (sem 𝓤 H A (OwnPlace c)) (sep 𝓤 (sem 𝓤 H A (OwnPlace c)) (sem 𝓤 H A (OwnPlace c)))
-  place-twice c = LL.copy P.the-type P′.the-copy 𝓤 H A W .twice c (P′.lowered c ∷ [])
 
   module _ (κ : Lft) where
     pub typed : (d : Reader) → Is (B (κ, tt)) d (T′.lowered d ∷ []) → Typed d
@@ -108,9 +110,6 @@ module _ {M : Type 1} (𝓤 : URA M) (H : Heap 𝓤) (A : Atoms 𝓤) (W : Given
 
     pub together : (d : Reader) → ent 𝓤 (sem 𝓤 H A (Held κ d)) (sem 𝓤 H A (Own κ d))
     together d = own-shut 𝓤 H A W (D (κ, tt)) (L (κ, tt)) (d .message, (d .cursor, tt))
-
-    pub remade : (d : Reader) (c : Cursor) → ent 𝓤 (sep 𝓤 (sem 𝓤 H A (Own κ d)) (sem 𝓤 H A (OwnPlace c))) (sem 𝓤 H A (Own κ (record { message = d .message; cursor = c })))
-    remade d c = own-put 𝓤 H A W (D (κ, tt)) (L (κ, tt)) 1 (d .message, (d .cursor, tt)) c (T′.lowered d)
 
     module _ (q : Share) where
       pub apart : (d : Reader) → ent 𝓤 (sep 𝓤 (Tok 𝓤 H A κ q) (sem 𝓤 H A (owns (B (κ, tt) ∷ []) (d, tt) (T′.lowered d ∷ [], tt)))) (sep 𝓤 (sep 𝓤 (sep 𝓤 (Tok 𝓤 H A κ q) (sem 𝓤 H A (Held κ d))) (emp 𝓤)) (sem 𝓤 H A (Own κ d)))

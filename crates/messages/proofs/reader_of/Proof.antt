@@ -1,5 +1,7 @@
--- `messages::reader_of` meets its contract: a walk of its MIR, by hand. A place at 0 is made in a local, and a reader of the bytes passed and that place in the result's.
--- A `&[u8]` is Copy, so what it owns is had twice: once for the bytes at exit, and once inside the result, beside what the place owns, which is had for nothing.
+-- `messages::reader_of` meets its contract: a walk of its MIR, by hand. A place at 0 is made in a local, and a reader of the bytes passed
+-- and that place in the result's.
+-- A `&[u8]` is Copy, so what it owns is had twice: once for the bytes at exit, and once inside the result, beside what the place owns,
+-- which is had for nothing.
 -- Assumes nothing.
 use mathlib.Core.Path.{refl}
 use Prim.Native.Nat.{ℕ}

@@ -1,5 +1,7 @@
--- `messages::told_here` meets its contract: a walk of its MIR, by hand. The reader is taken apart, and `tell_from` is called on the bytes and the place. All that the proof knows of `tell_from` is that it meets its contract.
--- The reader is Copy: what it owns is had twice, one copy is kept whole for the exit, and the other is what the callee asks, which takes the fields in their order and nothing else. The lifetime's token goes to it, and comes back.
+-- `messages::told_here` meets its contract: a walk of its MIR, by hand. The reader is taken apart, and `tell_from` is called on the bytes
+-- and the place. All that the proof knows of `tell_from` is that it meets its contract.
+-- The reader is Copy: what it owns is had twice, one copy is kept whole for the exit, and the other is what the callee asks, which takes
+-- the fields in their order and nothing else. The lifetime's token goes to it, and comes back.
 -- Assumes nothing.
 use mathlib.Core.Path.{_≡_, refl}
 use mathlib.Core.List.{[], _∷_}

@@ -1,4 +1,5 @@
--- `messages::told_of` meets its contract: a walk of its MIR, by hand. A reader that one call returns is held in a local and passed to the next. All that the proof knows of `reader_of` and of `told_here` is that each meets its contract.
+-- `messages::told_of` meets its contract: a walk of its MIR, by hand. A reader that one call returns is held in a local and passed to the
+-- next. All that the proof knows of `reader_of` and of `told_here` is that each meets its contract.
 -- The machine value that `reader_of` returns is stored and passed on as it is.
 -- Assumes nothing.
 use mathlib.Core.Path.{_≡_, refl, ap, _∙_}
