@@ -14,7 +14,7 @@ enum {
 
 /* ---- reading a line */
 
-static Tuple read_tuple(void)
+static Tuple read_line_tuple(void)
 {
     Tuple t;
     t.position = (uint16_t)read_number();
@@ -28,7 +28,7 @@ static Name read_name(void)
 {
     Name name = {0, {{0, 0, 0, 0}}};
     do
-        name.tuples[name.depth++] = read_tuple();
+        name.tuples[name.depth++] = read_line_tuple();
     while (passed_over('/') && name.depth < DEPTH_LIMIT);
     return name;
 }

@@ -102,7 +102,7 @@ Name tuples_after(const Name *name, const Name *start)
     return row;
 }
 
-static Tuple read_tuple(const uint8_t *bytes)
+Tuple read_tuple(const uint8_t *bytes)
 {
     Tuple t;
     t.position = (uint16_t)from_bytes(bytes, 2);
@@ -112,7 +112,7 @@ static Tuple read_tuple(const uint8_t *bytes)
     return t;
 }
 
-static void write_tuple(uint8_t *bytes, Tuple t)
+void write_tuple(uint8_t *bytes, Tuple t)
 {
     to_bytes(bytes, 2, t.position);
     to_bytes(bytes + 2, 2, t.node);
@@ -157,16 +157,11 @@ static bool keeps_layout(const uint8_t *bytes, size_t length)
     return true;
 }
 
-/* "strictly rising names", asked only of slots that keep their layout */
-static bool names_rise(const uint8_t *bytes, size_t length)
+bool names_rise(const Page *page)
 {
-    for (size_t at = SLOT_BYTES; at < length; at += SLOT_BYTES) {
-        Slot before, slot;
-        read_slot(bytes + at - SLOT_BYTES, &before);
-        read_slot(bytes + at, &slot);
-        if (compare_names(&before.name, &slot.name) >= 0)
+    for (size_t i = 1; i < page->count; i++)
+        if (compare_names(&page->slots[i - 1].name, &page->slots[i].name) >= 0)
             return false;
-    }
     return true;
 }
 
@@ -181,9 +176,9 @@ int check_page(const uint8_t *bytes, size_t length)
 {
     if (!keeps_layout(bytes, length))
         return PAGE_LAYOUT;
-    if (!names_rise(bytes, length))
-        return PAGE_NOT_RISING;
-    return ACCEPTED;
+    Page page;
+    read_page(bytes, length, &page);
+    return names_rise(&page) ? ACCEPTED : PAGE_NOT_RISING;
 }
 
 /* "A log is a page of 1..256 slots whose line numbers are 0." */

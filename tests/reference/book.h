@@ -36,6 +36,7 @@ enum {
     NO_NEW_NAME = 12,
     TABLE_LAYOUT = 13,
     NO_EPOCH = 14,
+    MALFORMED = 15,
     GAP_BEYOND = 16,
     EPOCH_LISTED = 17,
     TABLE_FULL = 18
@@ -92,11 +93,18 @@ Name joined(const Name *a, const Name *b);
 bool begins_with(const Name *name, const Name *start);
 Name tuples_after(const Name *name, const Name *start);
 
+/* Read and write TUPLE_BYTES, whatever they say. */
+Tuple read_tuple(const uint8_t *bytes);
+void write_tuple(uint8_t *bytes, Tuple t);
+
 /* Reads one slot of SLOT_BYTES; false where it breaks its layout, and the slot read then means nothing. */
 bool read_slot(const uint8_t *bytes, Slot *slot);
 
 /* Writes SLOT_BYTES. Any tuples are written, a name or not; the depth is at most DEPTH_LIMIT. */
 void write_slot(uint8_t *bytes, const Slot *slot);
+
+/* "strictly rising names" */
+bool names_rise(const Page *page);
 
 /* ACCEPTED or PAGE_LAYOUT, of a slot that is given alone. */
 int check_slot(const uint8_t *bytes, size_t length);

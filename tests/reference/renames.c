@@ -181,14 +181,6 @@ static bool all_fit(const Page *page)
     return true;
 }
 
-static bool all_rise(const Page *page)
-{
-    for (size_t i = 1; i < page->count; i++)
-        if (!below(&page->slots[i - 1].name, &page->slots[i].name))
-            return false;
-    return true;
-}
-
 /* "Line numbers travel with their names. Renaming and taking back read one page and write another, the same number of
  * slots in the same order"; "rename 1, 2, 3, 4, 5, 6, 8" */
 Outcome rename_page(const uint8_t *page, size_t page_length, const uint8_t *log, size_t log_length, uint16_t node,
@@ -221,7 +213,7 @@ Outcome take_page_back(const uint8_t *page, size_t page_length, const uint8_t *l
         slots.slots[i].name = take_name_back(&renaming, &slots.slots[i].name).name;
     if (!all_fit(&slots))
         return refused(TOO_DEEP);
-    if (!all_rise(&slots))
+    if (!names_rise(&slots))
         return refused(BACK_NOT_RISING);
     return write_page(&slots, out, room);
 }

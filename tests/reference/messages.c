@@ -1,0 +1,284 @@
+#include "messages.h"
+
+#include <string.h>
+
+#include "numbers.h"
+
+/* Numbers and names, in slots with line number 0. */
+typedef struct {
+    Numbers numbers;
+    Page names;
+} Message;
+
+/* ---- what a message may say */
+
+/* "kind, one byte (1 insert, 2 remove, 3 rename)"; "six zeros for the first epoch; node 0 with another sequence is
+ * malformed"; "author, 6 bytes, node at least 1" */
+static const char *wrong_with_numbers(const Numbers *numbers)
+{
+    if (numbers->kind != INSERT && numbers->kind != REMOVE && numbers->kind != RENAME)
+        return "a bad kind";
+    if (numbers->epoch.node == 0 && numbers->epoch.sequence != 0)
+        return "a bad epoch";
+    if (numbers->author.node == 0)
+        return "a bad author";
+    if (numbers->line != 0 && numbers->kind != INSERT)
+        return "a line number where the kind isn't insert";
+    return NULL;
+}
+
+/* "for insert tag 4 [..] for remove one tag 4; for rename 1..256 tags 4, rising". A page has no more than 256. */
+static const char *wrong_with_names(uint8_t kind, const Page *names)
+{
+    if (names->count == 0)
+        return "no name";
+    if (names->count > 1 && kind != RENAME)
+        return "more names than one";
+    return names_rise(names) ? NULL : "names not rising";
+}
+
+/* ---- reading */
+
+/* The bytes of a message that are not read yet. */
+typedef struct {
+    const uint8_t *bytes;
+    size_t length;
+} Rest;
+
+typedef struct {
+    const uint8_t *content;
+    size_t length;
+} Field;
+
+/* Takes the next field, which must have this tag. */
+static const char *take_field(Rest *rest, uint8_t tag, Field *field)
+{
+    if (rest->length < FIELD_HEAD_BYTES)
+        return "cut before a field's content";
+    if (rest->bytes[0] != tag)
+        return "another tag";
+    field->length = from_bytes(rest->bytes + 1, 2);
+    field->content = rest->bytes + FIELD_HEAD_BYTES;
+    rest->bytes += FIELD_HEAD_BYTES;
+    rest->length -= FIELD_HEAD_BYTES;
+    if (field->length > rest->length)
+        return "a length past the end";
+    rest->bytes += field->length;
+    rest->length -= field->length;
+    return NULL;
+}
+
+/* The same of a field that must have so many bytes. */
+static const char *take_bytes(Rest *rest, uint8_t tag, size_t length, const uint8_t **content)
+{
+    Field field;
+    const char *wrong = take_field(rest, tag, &field);
+    if (wrong != NULL)
+        return wrong;
+    *content = field.content;
+    return field.length == length ? NULL : "a number of another length";
+}
+
+static const char *take_kind(Rest *rest, uint8_t *kind)
+{
+    const uint8_t *content;
+    const char *wrong = take_bytes(rest, KIND_TAG, KIND_BYTES, &content);
+    if (wrong == NULL)
+        *kind = content[0];
+    return wrong;
+}
+
+static const char *take_pair(Rest *rest, uint8_t tag, Pair *pair)
+{
+    const uint8_t *content;
+    const char *wrong = take_bytes(rest, tag, PAIR_BYTES, &content);
+    if (wrong == NULL) {
+        pair->node = (uint16_t)from_bytes(content, 2);
+        pair->sequence = from_bytes(content + 2, 4);
+    }
+    return wrong;
+}
+
+static const char *take_line(Rest *rest, uint32_t *line)
+{
+    const uint8_t *content;
+    const char *wrong = take_bytes(rest, LINE_TAG, LINE_BYTES, &content);
+    if (wrong == NULL)
+        *line = from_bytes(content, LINE_BYTES);
+    return wrong;
+}
+
+/* "tag 4 (a name's tuples, 12 bytes each)" */
+static const char *take_name(Rest *rest, Page *names)
+{
+    Field field;
+    const char *wrong = take_field(rest, NAME_TAG, &field);
+    if (wrong != NULL)
+        return wrong;
+    if (names->count == SLOT_LIMIT)
+        return "more names than 256";
+    if (field.length % TUPLE_BYTES != 0 || field.length < TUPLE_BYTES || field.length > DEPTH_LIMIT * TUPLE_BYTES)
+        return "a name of another length";
+    Slot *slot = &names->slots[names->count++];
+    slot->line = 0;
+    slot->name.depth = field.length / TUPLE_BYTES;
+    for (size_t i = 0; i < slot->name.depth; i++)
+        slot->name.tuples[i] = read_tuple(field.content + i * TUPLE_BYTES);
+    return is_name(&slot->name) ? NULL : "a bad name";
+}
+
+/* "Tag 1: kind [..] Tag 2: epoch [..] Tag 3: author" */
+static const char *take_numbers(Rest *rest, Numbers *numbers)
+{
+    const char *wrong = take_kind(rest, &numbers->kind);
+    if (wrong == NULL)
+        wrong = take_pair(rest, EPOCH_TAG, &numbers->epoch);
+    if (wrong == NULL)
+        wrong = take_pair(rest, AUTHOR_TAG, &numbers->author);
+    return wrong;
+}
+
+/* "Then for insert tag 4 [..] and tag 5 [..]; for remove one tag 4; for rename 1..256 tags 4" */
+static const char *take_names(Rest *rest, Message *message)
+{
+    const char *wrong = NULL;
+    if (message->numbers.kind == RENAME) {
+        while (wrong == NULL && rest->length > 0)
+            wrong = take_name(rest, &message->names);
+        return wrong;
+    }
+    wrong = take_name(rest, &message->names);
+    if (wrong == NULL && message->numbers.kind == INSERT)
+        wrong = take_line(rest, &message->numbers.line);
+    return wrong;
+}
+
+/* "in this order, nothing after". The numbers are asked about before the names, since a kind tells which fields come. */
+static const char *take_message(const uint8_t *bytes, size_t length, Message *message)
+{
+    memset(message, 0, sizeof *message);
+    Rest rest = {bytes, length};
+    const char *wrong = take_numbers(&rest, &message->numbers);
+    if (wrong == NULL)
+        wrong = wrong_with_numbers(&message->numbers);
+    if (wrong == NULL)
+        wrong = take_names(&rest, message);
+    if (wrong == NULL && rest.length > 0)
+        wrong = "bytes after the end";
+    return wrong != NULL ? wrong : wrong_with_names(message->numbers.kind, &message->names);
+}
+
+const char *wrong_with_message(const uint8_t *bytes, size_t length)
+{
+    Message message;
+    return take_message(bytes, length, &message);
+}
+
+/* "Reading gives kind, epoch, author, line number (0 unless insert) and the names, in slots with line number 0."; "read
+ * message 15, 8"; "a refused read gives kind, epoch, author and line number as zeros" */
+Outcome read_message(const uint8_t *bytes, size_t length, Numbers *numbers, uint8_t *out, size_t room)
+{
+    Message message;
+    memset(numbers, 0, sizeof *numbers);
+    if (take_message(bytes, length, &message) != NULL)
+        return refused(MALFORMED);
+    Outcome outcome = write_page(&message.names, out, room);
+    if (outcome.answer == ACCEPTED)
+        *numbers = message.numbers;
+    return outcome;
+}
+
+/* ---- writing */
+
+static const char *wrong_with_slots(const uint8_t *slots, size_t length)
+{
+    if (length > PAGE_BYTES)
+        return "more slots than 256";
+    if (check_page(slots, length) == PAGE_LAYOUT)
+        return "slots that break their layout";
+    for (size_t at = 0; at < length; at += SLOT_BYTES) {
+        Slot slot;
+        read_slot(slots + at, &slot);
+        if (slot.line != 0)
+            return "a slot's line number other than 0";
+    }
+    return NULL;
+}
+
+const char *wrong_with_parts(const Numbers *numbers, const uint8_t *slots, size_t slots_length)
+{
+    const char *wrong = wrong_with_slots(slots, slots_length);
+    if (wrong == NULL)
+        wrong = wrong_with_numbers(numbers);
+    if (wrong != NULL)
+        return wrong;
+    Page names;
+    read_page(slots, slots_length, &names);
+    return wrong_with_names(numbers->kind, &names);
+}
+
+/* A message that is being written; it has room for the longest. */
+typedef struct {
+    size_t length;
+    uint8_t bytes[LONGEST_MESSAGE];
+} Written;
+
+static void put_number(Written *written, size_t length, uint32_t number)
+{
+    to_bytes(written->bytes + written->length, length, number);
+    written->length += length;
+}
+
+/* "Fields of one-byte tag, two-byte length, content" */
+static void put_head(Written *written, uint8_t tag, size_t length)
+{
+    put_number(written, 1, tag);
+    put_number(written, 2, (uint32_t)length);
+}
+
+static void put_pair(Written *written, uint8_t tag, Pair pair)
+{
+    put_head(written, tag, PAIR_BYTES);
+    put_number(written, 2, pair.node);
+    put_number(written, 4, pair.sequence);
+}
+
+static void put_name(Written *written, const Name *name)
+{
+    put_head(written, NAME_TAG, name->depth * TUPLE_BYTES);
+    for (size_t i = 0; i < name->depth; i++) {
+        write_tuple(written->bytes + written->length, name->tuples[i]);
+        written->length += TUPLE_BYTES;
+    }
+}
+
+static void put_message(Written *written, const Numbers *numbers, const Page *names)
+{
+    written->length = 0;
+    put_head(written, KIND_TAG, KIND_BYTES);
+    put_number(written, KIND_BYTES, numbers->kind);
+    put_pair(written, EPOCH_TAG, numbers->epoch);
+    put_pair(written, AUTHOR_TAG, numbers->author);
+    for (size_t i = 0; i < names->count; i++)
+        put_name(written, &names->slots[i].name);
+    if (numbers->kind == INSERT) {
+        put_head(written, LINE_TAG, LINE_BYTES);
+        put_number(written, LINE_BYTES, numbers->line);
+    }
+}
+
+/* "write message 15, 8 (15 for any parts that reading can't give [..])" */
+Outcome write_message(const Numbers *numbers, const uint8_t *slots, size_t slots_length, uint8_t *out, size_t room)
+{
+    if (wrong_with_parts(numbers, slots, slots_length) != NULL)
+        return refused(MALFORMED);
+    Page names;
+    read_page(slots, slots_length, &names);
+    Written written;
+    put_message(&written, numbers, &names);
+    if (room < written.length)
+        return refused(OUTPUT_SHORT);
+    memcpy(out, written.bytes, written.length);
+    Outcome outcome = {ACCEPTED, written.length};
+    return outcome;
+}
