@@ -2,15 +2,17 @@
 ghost use Prim.Native.Nat.{_*_, _≤_};
 ghost use lib.ListN.{length};
 ghost use Rattle.slots.specs.Slots.{slotSize};
-use crate::text::NAMES;
-use crate::text::put;
-use crate::text::put_all;
-use crate::text::show;
 use names::Author;
 use pages::PAGE;
 use pages::Place;
+use slot_words::MANY;
+use slot_words::NAMES;
+use slot_words::put;
+use slot_words::put_all;
+use slot_words::show;
 use slots::HEAD;
 use slots::SLOT;
+use words::BEFORE;
 use words::after_word;
 use words::after_words;
 use words::answer;
@@ -59,22 +61,17 @@ fn log_case(text: &[u8], at: usize) {
 fn fill(page: &mut [u8], n: usize)
     requires { ⌜ (slotSize * n ≤ length (now page)) × (n ≤ 257) ⌝ }
 {
-    let mut k: usize = 0;
-    while k < n {
-        put(page, SLOT * k, 0, b"9.2.0.0", 0);
-        slots::write_u32(page, SLOT * k + HEAD + 4, k as u32);
-        k += 1;
-    }
+    slot_words::fill(page, n, b"9.2.0.0", 0);
 }
 
 fn size_case(text: &[u8], at: usize, log: bool) {
     let n = number(text, at);
-    let mut bytes = [0u8; 257 * SLOT];
-    fill(&mut bytes, 257);
+    let mut bytes = [0u8; MANY * SLOT];
+    fill(&mut bytes, MANY);
     sized(&bytes, n.value as usize, log);
 }
 
-fn sized(bytes: &[u8; 257 * SLOT], n: usize, log: bool) {
+fn sized(bytes: &[u8; MANY * SLOT], n: usize, log: bool) {
     if log {
         answer(pages::check_log(first(bytes, n)));
     } else {
@@ -117,7 +114,7 @@ fn edit_case(text: &[u8], at: usize, insert: bool) {
     let next = put(&mut slot, 0, 7, text, room.next);
     let mut page = [0u8; NAMES * SLOT];
     let n = put_all(&mut page, text, next, true, 0);
-    let mut out = [170u8; NAMES * SLOT];
+    let mut out = [BEFORE; NAMES * SLOT];
     let count = edit(
         insert,
         first(&page, SLOT * n),
@@ -142,7 +139,7 @@ fn many_case(text: &[u8], at: usize, insert: bool) {
         let mut slot = [0u8; SLOT];
         put(&mut slot, 0, 7, b"9.2.0.0", 0);
         slots::write_u32(&mut slot, HEAD + 4, sequence.value);
-        let mut out = [170u8; PAGE];
+        let mut out = [BEFORE; PAGE];
         edit(
             insert,
             first(&page, SLOT * lines),
@@ -194,7 +191,7 @@ fn renamed(back: bool, page: &[u8], log: &[u8], author: Author, out: &mut [u8]) 
 fn with_log(text: &[u8], at: usize, back: bool, log: &[u8], author: Author, room: usize) {
     let mut page = [0u8; NAMES * SLOT];
     let n = put_all(&mut page, text, at, true, 0);
-    let mut out = [170u8; NAMES * SLOT];
+    let mut out = [BEFORE; NAMES * SLOT];
     let count = renamed(
         back,
         first(&page, SLOT * n),
@@ -233,9 +230,9 @@ fn long_case(text: &[u8], at: usize, back: bool) {
     let n = number(text, at);
     let by = words::author(text, n.next);
     let k = n.value as usize;
-    if k <= 257 {
-        let mut log = [0u8; 257 * SLOT];
-        fill(&mut log, 257);
+    if k <= MANY {
+        let mut log = [0u8; MANY * SLOT];
+        fill(&mut log, MANY);
         let author = by.author;
         with_log(text, by.next, back, first(&log, SLOT * k), author, PAGE);
     }

@@ -21,7 +21,6 @@
 //
 // A name is written as the listing shows it.
 mod asked;
-mod text;
 
 use libc::STDIN_FILENO;
 

@@ -8,31 +8,27 @@ use crate::entries::show;
 use epochs::ENTRY;
 use epochs::Next;
 use pages::Answer;
+use words::BEFORE;
 use words::after_word;
 use words::answer;
 use words::byte;
+use words::changed;
 use words::end_line;
 use words::first;
 use words::first_mut;
 use words::number;
 use words::say_first;
 use words::say_next;
+use words::shorter;
 
 // The most steps of a walk that are shown: more than 01's 31.
 const STEPS: usize = 40;
-
-// What every byte of an output is before the call.
-const BEFORE: u8 = 170;
 
 fn table_case(text: &[u8], at: usize) {
     let less = number(text, at);
     let mut table = [0u8; TABLE];
     let n = ENTRY * put_all(&mut table, text, less.next);
     answer(epochs::check_table(first(&table, shorter(n, less.value as usize))));
-}
-
-fn shorter(n: usize, less: usize) -> usize {
-    if less <= n { n - less } else { 0 }
 }
 
 // What comes back of a question for the next step: the answer's number, the step's and its index.
@@ -87,23 +83,6 @@ fn step_case(text: &[u8], at: usize, on: bool) {
     } else {
         step(first(&table, ENTRY * n), index.value as usize);
     }
-}
-
-// How many bytes from a place on are no longer as they were before the call.
-fn changed(out: &[u8; TABLE], from: usize) -> usize {
-    let mut n: usize = 0;
-    let mut i = from;
-    while i < TABLE {
-        n += differs(out[i]);
-        i += 1;
-    }
-    n
-}
-
-fn differs(byte: u8) -> usize
-    ensures { λ r. ⌜ r ≤ 1 ⌝ }
-{
-    if byte != BEFORE { 1 } else { 0 }
 }
 
 // The answer of an adding, and what it wrote.

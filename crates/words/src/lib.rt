@@ -28,7 +28,8 @@ pub fn line_ended(text: &[u8], at: usize) -> bool {
     last(text, at) != b' '
 }
 
-fn after(text: &[u8], at: usize) -> usize {
+// The place after a place, as far as the text goes.
+pub fn after(text: &[u8], at: usize) -> usize {
     if at < text.len() { at + 1 } else { at }
 }
 
@@ -124,6 +125,31 @@ pub fn first_mut(bytes: &mut [u8], n: usize) -> &mut [u8] {
     } else {
         bytes
     }
+}
+
+// A length less so many bytes.
+pub fn shorter(n: usize, less: usize) -> usize {
+    if less <= n { n - less } else { 0 }
+}
+
+// What every byte of an output is before the call.
+pub const BEFORE: u8 = 170;
+
+// How many bytes from a place on are no longer so.
+pub fn changed(out: &[u8], from: usize) -> usize {
+    let mut n: usize = 0;
+    let mut i = from;
+    while i < out.len() {
+        n += differs(out[i]);
+        i += 1;
+    }
+    n
+}
+
+fn differs(byte: u8) -> usize
+    ensures { λ r. ⌜ r ≤ 1 ⌝ }
+{
+    if byte != BEFORE { 1 } else { 0 }
 }
 
 pub fn write(text: &[u8]) {

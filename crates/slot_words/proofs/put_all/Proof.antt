@@ -1,10 +1,10 @@
--- `cases::text::put_all` meets its contract. Assumes nothing.
+-- `slot_words::put_all` meets its contract. Assumes nothing.
 use mathlib.Core.Path.{_≡_}
 use Prim.Native.Nat.{_-_, _≤_}
 use borrow.Author.Needs.{needs}
 use lib.ListN.{length}
-use Rattle.cases.proofs.text.put_all.Statement.{statement}
-use Rattle.cases.proofs.text.put_all.Tie as tie
+use Rattle.slot_words.proofs.put_all.Statement.{statement}
+use Rattle.slot_words.proofs.put_all.Tie as tie
 
 abbrev Inv-loop : tie.InvT-loop
 Inv-loop page₀ text at counted line i₀ k₀ page i k = (k ≤ 8) × (length page ≡ length page₀)

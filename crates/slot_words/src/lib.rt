@@ -1,4 +1,5 @@
-// Names and pages in the text of a case.
+// Names among the words of a line, as slots, and a page shown as lines: what the programs that run cases of names share
+// beside `words`. A name is written as the listing shows it.
 ghost use Prim.Native.Nat.{_+_, _*_, _≤_};
 ghost use lib.ListN.{length};
 ghost use Rattle.slots.specs.Bytes.{tupleSize};
@@ -13,7 +14,10 @@ use words::line_ended;
 use words::number;
 
 // The most names in a line.
-pub(crate) const NAMES: usize = 8;
+pub const NAMES: usize = 8;
+
+// One slot more than a page may have.
+pub const MANY: usize = pages::SLOTS + 1;
 
 // The tuple that stands at a place, written to out from p on; the place after it.
 fn put_tuple(out: &mut [u8], p: usize, text: &[u8], at: usize) -> usize
@@ -35,7 +39,7 @@ fn ended(text: &[u8], at: usize, k: usize) -> bool {
 }
 
 // A slot with that line number and the name that stands at a place, at most eight tuples; the place after it.
-pub(crate) fn put(out: &mut [u8], p: usize, line: u32, text: &[u8], at: usize) -> usize
+pub fn put(out: &mut [u8], p: usize, line: u32, text: &[u8], at: usize) -> usize
     requires { ⌜ p + slotSize ≤ length (now out) ⌝ }
 {
     let mut i = at;
@@ -63,7 +67,7 @@ fn line_number(counted: bool, k: usize, line: u32) -> u32 {
 
 // The names from a place to the end of the line, as the slots of a page; how many they are. The lines are 1, 2, .. or all
 // the given one.
-pub(crate) fn put_all(page: &mut [u8], text: &[u8], at: usize, counted: bool, line: u32) -> usize
+pub fn put_all(page: &mut [u8], text: &[u8], at: usize, counted: bool, line: u32) -> usize
     requires { ⌜ slotSize * 8 ≤ length (now page) ⌝ }
     ensures { λ r. ⌜ r ≤ 8 ⌝ }
 {
@@ -79,8 +83,20 @@ pub(crate) fn put_all(page: &mut [u8], text: &[u8], at: usize, counted: bool, li
     k
 }
 
+// n slots of line 0 with the name that stands at a place, its first tuple with the sequences 0, 1, ..
+pub fn fill(page: &mut [u8], n: usize, text: &[u8], at: usize)
+    requires { ⌜ (slotSize * n ≤ length (now page)) × (n ≤ 257) ⌝ }
+{
+    let mut k: usize = 0;
+    while k < n {
+        put(page, SLOT * k, 0, text, at);
+        slots::write_u32(page, SLOT * k + HEAD + 4, k as u32);
+        k += 1;
+    }
+}
+
 // The book that stands in a page, a line for each slot.
-pub(crate) fn show(page: &[u8]) {
+pub fn show(page: &[u8]) {
     let mut text = [0u8; TEXT];
     let end = listings::list(page, b"", &mut text);
     words::write(&text[..end]);

@@ -1,20 +1,21 @@
--- `epoch_cases::asked::changed` meets its contract. Assumes nothing.
+-- `words::changed` meets its contract. Assumes nothing.
 use Prim.Native.Nat.{_-_, _≤_}
 use borrow.Author.Needs.{needs}
-use Rattle.epoch_cases.proofs.asked.changed.Statement.{statement}
-use Rattle.epoch_cases.proofs.asked.changed.Tie as tie
+use lib.ListN.{length}
+use Rattle.words.proofs.changed.Statement.{statement}
+use Rattle.words.proofs.changed.Tie as tie
 
 abbrev Inv-loop : tie.InvT-loop
 Inv-loop out from n₀ i₀ n i = n ≤ i
 
 abbrev μ-loop : tie.MeasureT-loop
-μ-loop out from n₀ i₀ n i = 272 - i
+μ-loop out from n₀ i₀ n i = length out - i
 
 loop-holds : tie.Need-loop-holds Inv-loop μ-loop
 loop-holds c = search needs
 
-element-copy-out-differs : tie.Need-element-copy-out-differs Inv-loop μ-loop
-element-copy-out-differs c = search needs
+shared-slice-read-differs : tie.Need-shared-slice-read-differs Inv-loop μ-loop
+shared-slice-read-differs c = search needs
 
 differs-requires : tie.Need-differs-requires Inv-loop μ-loop
 differs-requires c κs = search needs
@@ -41,7 +42,7 @@ changed-spec =
     Inv-loop
     μ-loop
     loop-holds
-    element-copy-out-differs
+    shared-slice-read-differs
     differs-requires
     add-n
     add-i

@@ -1,25 +1,22 @@
--- `cases::asked::fill` meets its contract. Assumes nothing.
+-- `slot_words::fill` meets its contract. Assumes nothing.
 use mathlib.Core.Path.{_≡_}
 use Prim.Native.Nat.{_-_, _≤_}
 use borrow.Author.Needs.{needs}
 use lib.ListN.{length}
-use Rattle.cases.proofs.asked.fill.Statement.{statement}
-use Rattle.cases.proofs.asked.fill.Tie as tie
+use Rattle.slot_words.proofs.fill.Statement.{statement}
+use Rattle.slot_words.proofs.fill.Tie as tie
 
 abbrev Inv-loop : tie.InvT-loop
-Inv-loop page₀ n k₀ t4 page k = (k ≤ n) × (length page ≡ length page₀)
+Inv-loop page₀ n text at k₀ page k = (k ≤ n) × (length page ≡ length page₀)
 
 abbrev μ-loop : tie.MeasureT-loop
-μ-loop page₀ n k₀ t4 page k = n - k
+μ-loop page₀ n text at k₀ page k = n - k
 
 loop-holds : tie.Need-loop-holds Inv-loop μ-loop
 loop-holds c = search needs
 
 mul-put : tie.Need-mul-put Inv-loop μ-loop
 mul-put c = search needs
-
-slice-aggregate-put : tie.Need-slice-aggregate-put Inv-loop μ-loop
-slice-aggregate-put c = search needs
 
 put-requires : tie.Need-put-requires Inv-loop μ-loop
 put-requires c κs = search needs
@@ -62,7 +59,6 @@ fill-spec =
     μ-loop
     loop-holds
     mul-put
-    slice-aggregate-put
     put-requires
     mul-write-u32
     add-write-u32

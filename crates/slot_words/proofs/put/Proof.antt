@@ -1,11 +1,11 @@
--- `cases::text::put` meets its contract. Assumes nothing.
+-- `slot_words::put` meets its contract. Assumes nothing.
 use mathlib.Core.Path.{_≡_}
 use Prim.Native.Nat.{_-_, _≤_}
 use borrow.Author.Needs.{needs}
 use lib.ListN.{length}
 use Rattle.names.specs.Names.{limit}
-use Rattle.cases.proofs.text.put.Statement.{statement}
-use Rattle.cases.proofs.text.put.Tie as tie
+use Rattle.slot_words.proofs.put.Statement.{statement}
+use Rattle.slot_words.proofs.put.Tie as tie
 
 abbrev Inv-loop : tie.InvT-loop
 Inv-loop out₀ p line text at i₀ k₀ out i k = (k ≤ limit) × (length out ≡ length out₀)
