@@ -5,61 +5,16 @@
 #include "../reference/edits.h"
 #include "../reference/listing.h"
 #include "../reference/renames.h"
+#include "name_reference.h"
 #include "reference.h"
 
-enum {
-    NAMES = 8, /* the most slots that a line's own names fill, and the slots of its output */
-    MANY = SLOT_LIMIT + 1
-};
-
 /* ---- reading a line */
-
-static Tuple read_line_tuple(void)
-{
-    Tuple t;
-    t.position = (uint16_t)read_number();
-    t.node = (uint16_t)read_number();
-    t.sequence = (uint32_t)read_number();
-    t.offset = (int32_t)read_number();
-    return t;
-}
-
-static Name read_name(void)
-{
-    Name name = {0, {{0, 0, 0, 0}}};
-    do
-        name.tuples[name.depth++] = read_line_tuple();
-    while (passed_over('/') && name.depth < DEPTH_LIMIT);
-    return name;
-}
-
-/* Bytes that are handed to a call. */
-typedef struct {
-    size_t length;
-    uint8_t bytes[MANY * SLOT_BYTES];
-} Bytes;
-
-static void add_slot(Bytes *page, uint32_t line, Name name)
-{
-    Slot slot = {line, name};
-    write_slot(page->bytes + page->length, &slot);
-    page->length += SLOT_BYTES;
-}
 
 /* The names up to the end of the line, as the lines 1, 2, .. */
 static Bytes read_names(void)
 {
     Bytes page = {0, {0}};
     for (uint32_t line = 1; !line_ended() && line <= NAMES; line++)
-        add_slot(&page, line, read_name());
-    return page;
-}
-
-/* So many names, or those there are, all with this line number. */
-static Bytes read_lines(size_t most, uint32_t line)
-{
-    Bytes page = {0, {0}};
-    for (size_t i = 0; !line_ended() && i < most; i++)
         add_slot(&page, line, read_name());
     return page;
 }
@@ -80,10 +35,7 @@ static Name counted_name(uint32_t sequence)
 /* n slots (9, 2, 0, 0), (9, 2, 1, 0), .. of line 0 */
 static Bytes many_slots(size_t n)
 {
-    Bytes page = {0, {0}};
-    for (size_t i = 0; i < n; i++)
-        add_slot(&page, 0, counted_name((uint32_t)i));
-    return page;
+    return filled(n, counted_name(0));
 }
 
 /* ---- what a line asks for */
