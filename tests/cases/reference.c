@@ -71,6 +71,13 @@ int64_t read_number(void)
     return number;
 }
 
+uint8_t read_hex_byte(void)
+{
+    char digits[] = {rest[0], rest[1], '\0'};
+    rest += 2;
+    return (uint8_t)strtoul(digits, NULL, 16);
+}
+
 bool passed_over(char byte)
 {
     return rest[-1] == byte;

@@ -13,7 +13,10 @@ extern FILE *out;
 /* The next number of the line, and the byte after it is passed over. */
 int64_t read_number(void);
 
-/* Whether that byte was this one, and whether the line has ended. */
+/* The byte of the next two hex digits of the line. */
+uint8_t read_hex_byte(void);
+
+/* Whether the byte that was passed over was this one, and whether the line has ended. */
 bool passed_over(char byte);
 bool line_ended(void);
 
@@ -24,7 +27,7 @@ size_t room_of(int64_t asked, size_t most);
 void say(const char *kind, int answer, size_t number);
 void count_answer(const char *kind, int answer);
 
-/* Counts in which way an accepted call came to what it gives. */
+/* Counts in which way a call came to what it gives. */
 void count_way(const char *kind, const char *by);
 
 /* A kind of line. */
