@@ -31,30 +31,16 @@ fn table_case(text: &[u8], at: usize) {
     answer(epochs::check_table(first(&table, shorter(n, less.value as usize))));
 }
 
-// What comes back of a question for the next step: the answer's number, the step's and its index.
+// The answer's number in what comes back of a question for the next step.
 fn answer_number(next: Next) -> u64 {
     pages::number(epochs::answer(next)) as u64
-}
-
-fn step_number(next: Next) -> u64 {
-    match next {
-        Next::Take(s) => epochs::step_number(s) as u64,
-        Next::Refused(_) => 0,
-    }
-}
-
-fn step_index(next: Next) -> usize {
-    match next {
-        Next::Take(s) => epochs::step_index(s),
-        Next::Refused(_) => 0,
-    }
 }
 
 fn step(table: &[u8], index: usize) {
     let next = epochs::next_step(table, index);
     say_first(answer_number(next));
-    say_next(step_number(next));
-    say_next(step_index(next) as u64);
+    say_next(epochs::step_number(next) as u64);
+    say_next(epochs::step_index(next) as u64);
     end_line();
 }
 
@@ -64,10 +50,10 @@ fn walk(table: &[u8], index: usize) {
     let mut steps: usize = 0;
     while steps < STEPS {
         let next = epochs::next_step(table, at);
-        if step_number(next) == 0 {
+        if epochs::step_number(next) == 0 {
             break;
         }
-        at = step_index(next);
+        at = epochs::step_index(next);
         say_next(at as u64);
         steps += 1;
     }

@@ -33,6 +33,15 @@ stepIndex Stay = 0
 stepIndex (Up i) = i
 stepIndex (Down i) = i
 
+-- "Each refusal reports .. no .. index or step": what comes back has zeros for them
+abbrev pub numberIn : Next → ℕ
+numberIn (next.Take s) = stepNumber s
+numberIn (next.Refused r) = 0
+
+abbrev pub indexIn : Next → ℕ
+indexIn (next.Take s) = stepIndex s
+indexIn (next.Refused r) = 0
+
 -- "accepted; with the count .. (0 for a new name or a step)"
 abbrev pub answerOf : Next → Answer
 answerOf (next.Take s) = Accepted 0

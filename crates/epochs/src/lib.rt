@@ -8,7 +8,7 @@ ghost use Rattle.slots.specs.Bytes.{put};
 ghost use Rattle.pages.specs.Answers.{leaves};
 ghost use Rattle.epochs.specs.Tables.{entrySize, entriesOf, entryAt, entryBytes, isFirst, samePair, listed, keepsEntry, keepsFrom, keepsTable};
 ghost use Rattle.epochs.specs.Tree.{parentOf, compareKeys, compareEpochs, greater, target as targetOf, stepTo};
-ghost use Rattle.epochs.specs.Calls.{checkTable, stepNumber, stepIndex, answerOf, stepping, entryBy, adding};
+ghost use Rattle.epochs.specs.Calls.{checkTable, stepNumber, stepIndex, numberIn, indexIn, answerOf, stepping, entryBy, adding};
 use names::Author;
 use names::Order;
 use pages::Answer;
@@ -241,7 +241,7 @@ pub enum Next {
 }
 
 // 0 stay, 1 up, 2 down.
-pub fn step_number(s: Step) -> u8
+fn number_of(s: Step) -> u8
     ensures { λ r. ⌜ r ≡ stepNumber s ⌝ }
 {
     match s {
@@ -252,13 +252,32 @@ pub fn step_number(s: Step) -> u8
 }
 
 // The parent's or the child's index; 0 where the step is to stay.
-pub fn step_index(s: Step) -> usize
+fn index_of(s: Step) -> usize
     ensures { λ r. ⌜ r ≡ stepIndex s ⌝ }
 {
     match s {
         Step::Stay => 0,
         Step::Up(i) => i,
         Step::Down(i) => i,
+    }
+}
+
+// The number and the index of the step in what comes back; a refusal has zeros.
+pub fn step_number(n: Next) -> u8
+    ensures { λ r. ⌜ r ≡ numberIn n ⌝ }
+{
+    match n {
+        Next::Take(s) => number_of(s),
+        Next::Refused(_) => 0,
+    }
+}
+
+pub fn step_index(n: Next) -> usize
+    ensures { λ r. ⌜ r ≡ indexIn n ⌝ }
+{
+    match n {
+        Next::Take(s) => index_of(s),
+        Next::Refused(_) => 0,
     }
 }
 
