@@ -113,7 +113,7 @@ in-without a (y ∷ l) {z} h m = by (compareRows (y .name) a) (triN (y .name) a)
     by _ (above q) f = step f
     by _ (level q) f = elim (List·Memᴰ·cases-cons m) [ inl e ↦ absurd (h (ap nameIn e ∙ q)) | inr k ↦ f k ]
 
-length-placed : (x : Slot) (l : List Slot) → length (placed x l) ≡ suc (length l)
+pub length-placed : (x : Slot) (l : List Slot) → length (placed x l) ≡ suc (length l)
 length-placed x [] = refl
 length-placed x (y ∷ l) = by (isLess (compareRows (x .name) (y .name))) (length-placed x l)
   where
@@ -121,7 +121,7 @@ length-placed x (y ∷ l) = by (isLess (compareRows (x .name) (y .name))) (lengt
     by true q = refl
     by false q = ap suc q
 
-length-without : (a : Row) (l : List Slot) → length (without a l) ≤ length l
+pub length-without : (a : Row) (l : List Slot) → length (without a l) ≤ length l
 length-without a [] = omega arith
 length-without a (y ∷ l) = by (isSame (compareRows (y .name) a)) (length-without a l)
   where

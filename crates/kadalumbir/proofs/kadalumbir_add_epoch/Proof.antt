@@ -1,0 +1,24 @@
+-- `kadalumbir::kadalumbir_add_epoch` meets its contract. Assumes nothing.
+use mathlib.Core.Path.{ap, _∙_}
+use denote.Ref.{now}
+use lib.ListN.{length}
+use Rattle.kadalumbir.specs.Library.{packed}
+use Rattle.kadalumbir.proofs.Counts.{add-count}
+use borrow.Author.Needs.{needs}
+use Rattle.kadalumbir.proofs.kadalumbir_add_epoch.Statement.{statement}
+use Rattle.kadalumbir.proofs.kadalumbir_add_epoch.Tie as tie
+
+add-requires : tie.Need-add-requires
+add-requires c κs = search needs
+
+pack-requires : tie.Need-pack-requires
+pack-requires c κs = rw (c .before .before .add .ensures .0) (add-count (now (c .before .before .before .before .before .before .args .table)) (c .before .before .before .before .before .before .args .parent) (record { node = c .before .before .before .before .before .before .args .node; sequence = c .before .before .before .before .before .before .args .sequence }) (length (now (c .before .before .before .before .before .before .args .out))))
+
+same-length : tie.Need-same-length
+same-length c = search needs
+
+returns : tie.Need-returns
+returns c = (c .pack .ensures ∙ ap packed (c .before .before .before .add .ensures .0), c .before .before .before .add .ensures .1)
+
+pub kadalumbir-add-epoch-spec : {M : Type 1} → statement M
+kadalumbir-add-epoch-spec = tie.close (tie.spec add-requires pack-requires same-length returns)

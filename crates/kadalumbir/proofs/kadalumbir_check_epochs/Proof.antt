@@ -1,0 +1,20 @@
+-- `kadalumbir::kadalumbir_check_epochs` meets its contract. Assumes nothing.
+use mathlib.Core.Path.{ap, _∙_}
+use denote.Ref.{now}
+use Rattle.kadalumbir.specs.Library.{packed}
+use Rattle.kadalumbir.proofs.Counts.{check-table-count}
+use borrow.Author.Needs.{needs}
+use Rattle.kadalumbir.proofs.kadalumbir_check_epochs.Statement.{statement}
+use Rattle.kadalumbir.proofs.kadalumbir_check_epochs.Tie as tie
+
+check-table-requires : tie.Need-check-table-requires
+check-table-requires c κs = search needs
+
+pack-requires : tie.Need-pack-requires
+pack-requires c κs = rw (c .check-table .ensures) (check-table-count (now (c .before .before .args .table)))
+
+returns : tie.Need-returns
+returns c = c .pack .ensures ∙ ap packed (c .before .check-table .ensures)
+
+pub kadalumbir-check-epochs-spec : {M : Type 1} → statement M
+kadalumbir-check-epochs-spec = tie.close (tie.spec check-table-requires pack-requires returns)

@@ -1,0 +1,46 @@
+-- `kadalumbir::kadalumbir_next_step` meets its contract. Assumes nothing.
+use mathlib.Core.Path.{_≡_, ap, _∙_}
+use native.Mathlib.Omega.{arith}
+use denote.Ref.{now}
+use Rattle.kadalumbir.specs.Library.{packed}
+use Rattle.epochs.specs.Calls.{numberIn, indexIn, answerOf, stepping}
+use Rattle.kadalumbir.proofs.Counts.{step-count, step-index}
+use borrow.Author.Needs.{needs}
+use Rattle.kadalumbir.proofs.kadalumbir_next_step.Statement.{statement}
+use Rattle.kadalumbir.proofs.kadalumbir_next_step.Tie as tie
+
+next-step-requires : tie.Need-next-step-requires
+next-step-requires c κs = search needs
+
+step-number-requires : tie.Need-step-number-requires
+step-number-requires c κs = search needs
+
+step-index-requires : tie.Need-step-index-requires
+step-index-requires c κs = search needs
+
+cast-index : tie.Need-cast-index
+cast-index c =
+    let e : c .step-index .result ≡ indexIn (stepping (now (c .before .before .before .before .args .table)) (c .before .before .before .before .args .current)) = c .step-index .ensures ∙ ap indexIn (c .before .before .next-step .ensures) in
+    let b = step-index (now (c .before .before .before .before .args .table)) (c .before .before .before .before .args .current) in
+    omega arith
+
+answer-requires : tie.Need-answer-requires
+answer-requires c κs = search needs
+
+pack-requires : tie.Need-pack-requires
+pack-requires c κs = rw (c .answer .ensures) (step-count (c .before .before .before .next-step .result))
+
+returns : tie.Need-returns
+returns c = (c .pack .ensures ∙ ap packed (c .before .answer .ensures ∙ ap answerOf (c .before .before .before .before .next-step .ensures)), (c .before .before .before .step-number .ensures ∙ ap numberIn (c .before .before .before .before .next-step .ensures), c .before .before .step-index .ensures ∙ ap indexIn (c .before .before .before .before .next-step .ensures)))
+
+pub kadalumbir-next-step-spec : {M : Type 1} → statement M
+kadalumbir-next-step-spec =
+    tie.close
+    (tie.spec
+    next-step-requires
+    step-number-requires
+    step-index-requires
+    cast-index
+    answer-requires
+    pack-requires
+    returns)

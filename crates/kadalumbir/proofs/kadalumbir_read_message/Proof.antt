@@ -1,0 +1,24 @@
+-- `kadalumbir::kadalumbir_read_message` meets its contract. Assumes nothing.
+use mathlib.Core.Path.{ap, _∙_}
+use denote.Ref.{now}
+use lib.ListN.{length}
+use Rattle.kadalumbir.specs.Library.{packed}
+use Rattle.kadalumbir.proofs.Counts.{read-message-count}
+use borrow.Author.Needs.{needs}
+use Rattle.kadalumbir.proofs.kadalumbir_read_message.Statement.{statement}
+use Rattle.kadalumbir.proofs.kadalumbir_read_message.Tie as tie
+
+read-requires : tie.Need-read-requires
+read-requires c κs = search needs
+
+pack-requires : tie.Need-pack-requires
+pack-requires c κs = rw (c .before .before .before .before .before .read .ensures .0 .0) (read-message-count (now (c .before .before .before .before .before .before .before .before .before .args .message)) (length (now (c .before .before .before .before .before .before .before .before .before .args .out))))
+
+same-length : tie.Need-same-length
+same-length c = search needs
+
+returns : tie.Need-returns
+returns c = (c .pack .ensures ∙ ap packed (c .before .before .before .before .before .before .read .ensures .0 .0), (c .before .before .before .before .before .before .read .ensures .0 .1, c .before .before .before .before .before .before .read .ensures .1))
+
+pub kadalumbir-read-message-spec : {M : Type 1} → statement M
+kadalumbir-read-message-spec = tie.close (tie.spec read-requires pack-requires same-length returns)

@@ -1,0 +1,24 @@
+-- `kadalumbir::kadalumbir_remove` meets its contract. Assumes nothing.
+use mathlib.Core.Path.{ap, _∙_}
+use denote.Ref.{now}
+use lib.ListN.{length}
+use Rattle.kadalumbir.specs.Library.{packed}
+use Rattle.kadalumbir.proofs.Counts.{remove-count}
+use borrow.Author.Needs.{needs}
+use Rattle.kadalumbir.proofs.kadalumbir_remove.Statement.{statement}
+use Rattle.kadalumbir.proofs.kadalumbir_remove.Tie as tie
+
+remove-requires : tie.Need-remove-requires
+remove-requires c κs = search needs
+
+pack-requires : tie.Need-pack-requires
+pack-requires c κs = rw (c .before .before .remove .ensures .0) (remove-count (now (c .before .before .before .before .before .before .before .args .page)) (now (c .before .before .before .before .before .before .before .args .slot)) (length (now (c .before .before .before .before .before .before .before .args .out))))
+
+same-length : tie.Need-same-length
+same-length c = search needs
+
+returns : tie.Need-returns
+returns c = (c .pack .ensures ∙ ap packed (c .before .before .before .remove .ensures .0), c .before .before .before .remove .ensures .1)
+
+pub kadalumbir-remove-spec : {M : Type 1} → statement M
+kadalumbir-remove-spec = tie.close (tie.spec remove-requires pack-requires same-length returns)

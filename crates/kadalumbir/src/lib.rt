@@ -1,0 +1,229 @@
+// The library that firmware links: each function calls one function of the crates below and packs what comes back. Everything is
+// checked by the callee. The header is include/kadalumbir.h.
+ghost use mathlib.Core.Path.{_≡_};
+ghost use Prim.Native.Nat.{_<_};
+ghost use lib.ListN.{length};
+ghost use Rattle.names.specs.Names.{rowOf};
+ghost use Rattle.pages.specs.Answers.{countOf, leaves};
+ghost use Rattle.pages.specs.Pages.{checkPage, checkLog};
+ghost use Rattle.edits.specs.Edits.{insertion, removal};
+ghost use Rattle.renames.specs.Renames.{renaming, takingBack};
+ghost use Rattle.epochs.specs.Calls.{checkTable, numberIn, indexIn, answerOf, stepping, adding};
+ghost use Rattle.messages.specs.Calls.{reading, numbersRead, writing};
+ghost use Rattle.kadalumbir.specs.Library.{packed, named, newNaming, numbers};
+use messages::Numbers;
+use names::Author;
+use names::Name;
+use pages::Answer;
+use pages::Refusal;
+use slots::SLOT;
+
+// answer × 2³² + count
+fn pack(a: Answer) -> u64
+    requires { ⌜ countOf a < 4294967296 ⌝ }
+    ensures { λ r. ⌜ r ≡ packed a ⌝ }
+{
+    (pages::number(a) as u64) * 4294967296 + pages::count(a) as u64
+}
+
+// ── checks ──
+
+#[no_mangle]
+pub extern "C" fn kadalumbir_check_page(page: &[u8]) -> u64
+    ensures { λ r. ⌜ r ≡ packed (checkPage (now (page .entry))) ⌝ }
+{
+    pack(pages::check_page(page))
+}
+
+#[no_mangle]
+pub extern "C" fn kadalumbir_check_log(log: &[u8]) -> u64
+    ensures { λ r. ⌜ r ≡ packed (checkLog (now (log .entry))) ⌝ }
+{
+    pack(pages::check_log(log))
+}
+
+#[no_mangle]
+pub extern "C" fn kadalumbir_check_epochs(table: &[u8]) -> u64
+    ensures { λ r. ⌜ r ≡ packed (checkTable (now (table .entry))) ⌝ }
+{
+    pack(epochs::check_table(table))
+}
+
+// ── lines ──
+
+#[no_mangle]
+pub extern "C" fn kadalumbir_insert(page: &[u8], slot: &[u8], out: &mut [u8]) -> u64
+    ensures { λ r. ⌜ r ≡ packed (insertion (now (page .entry)) (now (slot .entry)) (length (now (out .entry))) .answer) ⌝ }
+    ensures { λ r. ⌜ now (out .exit) ≡ leaves (insertion (now (page .entry)) (now (slot .entry)) (length (now (out .entry)))) (now (out .entry)) ⌝ }
+{
+    pack(edits::insert(page, slot, out))
+}
+
+#[no_mangle]
+pub extern "C" fn kadalumbir_remove(page: &[u8], slot: &[u8], out: &mut [u8]) -> u64
+    ensures { λ r. ⌜ r ≡ packed (removal (now (page .entry)) (now (slot .entry)) (length (now (out .entry))) .answer) ⌝ }
+    ensures { λ r. ⌜ now (out .exit) ≡ leaves (removal (now (page .entry)) (now (slot .entry)) (length (now (out .entry)))) (now (out .entry)) ⌝ }
+{
+    pack(edits::remove(page, slot, out))
+}
+
+// ── new names ──
+
+// 8; else the name as one slot with line number 0.
+fn write_name(answer: Answer, name: Name, out: &mut [u8]) -> Answer
+    ensures { λ r. ⌜ r ≡ named answer (rowOf name) (length (now (out .entry))) .answer ⌝ }
+    ensures { λ r. ⌜ now (out .exit) ≡ leaves (named answer (rowOf name) (length (now (out .entry)))) (now (out .entry)) ⌝ }
+{
+    match answer {
+        Answer::Refused(r) => Answer::Refused(r),
+        Answer::Accepted(n) => {
+            if out.len() < SLOT {
+                return Answer::Refused(Refusal::Short);
+            }
+            slots::write_slot(out, 0, 0, name);
+            Answer::Accepted(n)
+        }
+    }
+}
+
+#[no_mangle]
+pub extern "C" fn kadalumbir_new_name(
+    page: &[u8],
+    gap: usize,
+    node: u16,
+    sequence: u32,
+    out: &mut [u8],
+) -> u64
+    ensures { λ r. ⌜ r ≡ packed (newNaming (now (page .entry)) gap (record { node = node; sequence = sequence }) (length (now (out .entry))) .answer) ⌝ }
+    ensures { λ r. ⌜ now (out .exit) ≡ leaves (newNaming (now (page .entry)) gap (record { node = node; sequence = sequence }) (length (now (out .entry)))) (now (out .entry)) ⌝ }
+{
+    let made = gaps::new_name(page, gap, Author { node, sequence });
+    let answer = made.answer;
+    let name = made.name;
+    pack(write_name(answer, name, out))
+}
+
+// ── renames ──
+
+#[no_mangle]
+pub extern "C" fn kadalumbir_rename(
+    page: &[u8],
+    log: &[u8],
+    node: u16,
+    sequence: u32,
+    out: &mut [u8],
+) -> u64
+    ensures { λ r. ⌜ r ≡ packed (renaming (now (page .entry)) (now (log .entry)) (record { node = node; sequence = sequence }) (length (now (out .entry))) .answer) ⌝ }
+    ensures { λ r. ⌜ now (out .exit) ≡ leaves (renaming (now (page .entry)) (now (log .entry)) (record { node = node; sequence = sequence }) (length (now (out .entry)))) (now (out .entry)) ⌝ }
+{
+    pack(renames::rename(page, log, Author { node, sequence }, out))
+}
+
+#[no_mangle]
+pub extern "C" fn kadalumbir_take_back(
+    page: &[u8],
+    log: &[u8],
+    node: u16,
+    sequence: u32,
+    out: &mut [u8],
+) -> u64
+    ensures { λ r. ⌜ r ≡ packed (takingBack (now (page .entry)) (now (log .entry)) (record { node = node; sequence = sequence }) (length (now (out .entry))) .answer) ⌝ }
+    ensures { λ r. ⌜ now (out .exit) ≡ leaves (takingBack (now (page .entry)) (now (log .entry)) (record { node = node; sequence = sequence }) (length (now (out .entry)))) (now (out .entry)) ⌝ }
+{
+    pack(renames::take_back(page, log, Author { node, sequence }, out))
+}
+
+// ── epochs ──
+
+#[no_mangle]
+pub extern "C" fn kadalumbir_next_step(
+    table: &[u8],
+    current: usize,
+    step: &mut u8,
+    index: &mut u32,
+) -> u64
+    ensures { λ r. ⌜ r ≡ packed (answerOf (stepping (now (table .entry)) current)) ⌝ }
+    ensures { λ _. ⌜ now (step .exit) ≡ numberIn (stepping (now (table .entry)) current) ⌝ }
+    ensures { λ _. ⌜ now (index .exit) ≡ indexIn (stepping (now (table .entry)) current) ⌝ }
+{
+    let next = epochs::next_step(table, current);
+    *step = epochs::step_number(next);
+    *index = epochs::step_index(next) as u32;
+    pack(epochs::answer(next))
+}
+
+#[no_mangle]
+pub extern "C" fn kadalumbir_add_epoch(
+    table: &[u8],
+    parent: usize,
+    node: u16,
+    sequence: u32,
+    out: &mut [u8],
+) -> u64
+    ensures { λ r. ⌜ r ≡ packed (adding (now (table .entry)) parent (record { node = node; sequence = sequence }) (length (now (out .entry))) .answer) ⌝ }
+    ensures { λ r. ⌜ now (out .exit) ≡ leaves (adding (now (table .entry)) parent (record { node = node; sequence = sequence }) (length (now (out .entry)))) (now (out .entry)) ⌝ }
+{
+    pack(epochs::add(table, parent, Author { node, sequence }, out))
+}
+
+// ── messages ──
+
+#[no_mangle]
+pub extern "C" fn kadalumbir_write_message(
+    kind: u8,
+    epoch_node: u16,
+    epoch_sequence: u32,
+    author_node: u16,
+    author_sequence: u32,
+    line: u32,
+    names: &[u8],
+    out: &mut [u8],
+) -> u64
+    ensures { λ r. ⌜ r ≡ packed (writing (numbers kind «epoch_node» «epoch_sequence» «author_node» «author_sequence» line) (now (names .entry)) (length (now (out .entry))) .answer) ⌝ }
+    ensures { λ r. ⌜ now (out .exit) ≡ leaves (writing (numbers kind «epoch_node» «epoch_sequence» «author_node» «author_sequence» line) (now (names .entry)) (length (now (out .entry)))) (now (out .entry)) ⌝ }
+{
+    let epoch = Author {
+        node: epoch_node,
+        sequence: epoch_sequence,
+    };
+    let author = Author {
+        node: author_node,
+        sequence: author_sequence,
+    };
+    let numbers = Numbers {
+        kind,
+        epoch,
+        author,
+        line,
+    };
+    pack(messages::write(numbers, names, out))
+}
+
+#[no_mangle]
+pub extern "C" fn kadalumbir_read_message(
+    message: &[u8],
+    kind: &mut u8,
+    epoch_node: &mut u16,
+    epoch_sequence: &mut u32,
+    author_node: &mut u16,
+    author_sequence: &mut u32,
+    line: &mut u32,
+    out: &mut [u8],
+) -> u64
+    ensures { λ r. ⌜ r ≡ packed (reading (now (message .entry)) (length (now (out .entry))) .answer) ⌝ }
+    ensures { λ _. ⌜ numbers (now (kind .exit)) (now («epoch_node» .exit)) (now («epoch_sequence» .exit)) (now («author_node» .exit)) (now («author_sequence» .exit)) (now (line .exit)) ≡ numbersRead (now (message .entry)) (length (now (out .entry))) ⌝ }
+    ensures { λ _. ⌜ now (out .exit) ≡ leaves (reading (now (message .entry)) (length (now (out .entry)))) (now (out .entry)) ⌝ }
+{
+    let read = messages::read(message, out);
+    let answer = read.answer;
+    let numbers = read.numbers;
+    let epoch = numbers.epoch;
+    let author = numbers.author;
+    *kind = numbers.kind;
+    *epoch_node = epoch.node;
+    *epoch_sequence = epoch.sequence;
+    *author_node = author.node;
+    *author_sequence = author.sequence;
+    *line = numbers.line;
+    pack(answer)
+}
