@@ -1,0 +1,158 @@
+/*
+ * Kadalumbir: line books for walking magnetometers. A book is a page of numbered lines that several units edit; each
+ * line has a name, and the order of the names is the order of the lines. Every call checks all the bytes that it is
+ * given, and then either does what is said here or refuses with a number and writes nothing. Both are proved, for every
+ * input. The library keeps no state and allocates nothing, and needs memset from outside, no more.
+ *
+ * A line put into an empty book:
+ *
+ *     uint8_t slot[KADALUMBIR_SLOT_BYTES], book[KADALUMBIR_PAGE_BYTES];
+ *     uint64_t result = kadalumbir_new_name(NULL, 0, 0, node, sequence, slot, sizeof slot);
+ *     slot[7] = 42;                                   the line number, big-endian in bytes 4 to 7
+ *     if (kadalumbir_answer_of(result) == KADALUMBIR_ACCEPTED)
+ *         result = kadalumbir_insert(NULL, 0, slot, sizeof slot, book, sizeof book);
+ *     size_t book_len = kadalumbir_count_of(result) * KADALUMBIR_SLOT_BYTES;
+ *
+ * Arguments. Bytes are given as a pointer and a length in bytes, of any length; a null pointer with length 0 is empty.
+ * An output, `out` or a single number, must not overlap an input or another output. Pointers to single numbers must
+ * not be null.
+ *
+ * Results. A call gives answer * 2^32 + count; kadalumbir_answer_of and kadalumbir_count_of take them out. An accepted
+ * call has answer 0, writes what its count says from the start of `out`, and leaves the bytes after that as they were.
+ * A refused call has count 0, leaves all of `out` as it was, and sets the single numbers that it gives to 0. Where more
+ * than one refusal applies, the first in the order beside the function is given.
+ *
+ * Stack. The number beside each function is what the call and all that it calls put on the stack, in bytes: read off the
+ * frames of the archive for x86-64 and rounded up, without memset's own. Other machines are near it.
+ *
+ * Bytes. All numbers are big-endian.
+ *   tuple   12 bytes: position u16, node u16, sequence u32, offset i32 in two's complement. An ordinary tuple has
+ *           position 1..65534, node at least 1, offset -1..2147483646. Markers are (0, 0, 0, 0) and
+ *           (65535, 65535, 4294967295, 2147483647).
+ *   name    1 to 8 tuples. The first and the last are ordinary, the last has offset at least 0; markers may stand between.
+ *           Names compare at the first tuple that differs, by position, node, sequence, offset; a prefix is smaller.
+ *   slot    104 bytes: depth 1..8, three zero bytes, line number u32, the name's tuples, zeros.
+ *   page    0 to 256 slots with strictly rising names.
+ *   log     a page of 1 to 256 slots whose line numbers are all 0: the names that a rename makes short.
+ *   table   1 to 32 entries of 8 bytes: node u16, sequence u32, parent's index u16. Entry 0 is all zero. Every other
+ *           entry has node at least 1, a parent with a smaller index, and a (node, sequence) that no other entry has.
+ *   message fields of tag u8, length u16, content, in this order: 1 kind (u8); 2 epoch and 3 author (each node u16,
+ *           sequence u32; the first epoch is six zeros, an author's node is at least 1); 4 a name's tuples; for insert
+ *           then 5 line number (u32). Insert and remove have one name, rename 1 to 256 rising ones.
+ */
+#ifndef KADALUMBIR_H
+#define KADALUMBIR_H
+
+#include <stddef.h>
+#include <stdint.h>
+
+#ifdef __cplusplus
+extern "C" {
+#endif
+
+#define KADALUMBIR_TUPLE_BYTES 12
+#define KADALUMBIR_TUPLES 8   /* the most of a name */
+#define KADALUMBIR_SLOT_BYTES 104
+#define KADALUMBIR_SLOTS 256  /* the most of a page or a log */
+#define KADALUMBIR_PAGE_BYTES (KADALUMBIR_SLOTS * KADALUMBIR_SLOT_BYTES)
+#define KADALUMBIR_ENTRY_BYTES 8
+#define KADALUMBIR_ENTRIES 32 /* the most of an epoch table */
+#define KADALUMBIR_TABLE_BYTES (KADALUMBIR_ENTRIES * KADALUMBIR_ENTRY_BYTES)
+#define KADALUMBIR_MESSAGE_BYTES 25366 /* of the longest message */
+
+/* What comes back. */
+typedef enum kadalumbir_answer {
+    KADALUMBIR_ACCEPTED = 0,
+    KADALUMBIR_BAD_LAYOUT = 1,       /* a page (its order apart) or given slot breaks its layout */
+    KADALUMBIR_NOT_RISING = 2,       /* page names not strictly rising */
+    KADALUMBIR_BAD_LOG = 3,          /* log breaks its layout, is empty, not rising, or has a line number other than 0 */
+    KADALUMBIR_NO_AUTHOR = 4,        /* author node is 0 */
+    KADALUMBIR_NOT_FRESH = 5,        /* rename not fresh: a name of page or log begins with the author's pair */
+    KADALUMBIR_TOO_DEEP = 6,         /* some result needs more than eight tuples */
+    KADALUMBIR_NOT_RISING_BACK = 7,  /* taken-back names not strictly rising */
+    KADALUMBIR_SHORT = 8,            /* output shorter than the result */
+    KADALUMBIR_PRESENT = 9,          /* insert: name present */
+    KADALUMBIR_ABSENT = 10,          /* remove: name absent */
+    KADALUMBIR_FULL = 11,            /* insert: page has 256 slots */
+    KADALUMBIR_NO_NEW_NAME = 12,     /* no new name by the rule */
+    KADALUMBIR_BAD_TABLE = 13,       /* epoch table breaks its layout */
+    KADALUMBIR_NO_EPOCH = 14,        /* current or parent index not in the table */
+    KADALUMBIR_MALFORMED = 15,       /* message, or the parts given for one, malformed */
+    KADALUMBIR_NO_GAP = 16,          /* gap beyond the page */
+    KADALUMBIR_LISTED = 17,          /* epoch to add already listed */
+    KADALUMBIR_TABLE_FULL = 18       /* epoch table has 32 entries */
+} kadalumbir_answer;
+
+static inline kadalumbir_answer kadalumbir_answer_of(uint64_t result)
+{
+    return (kadalumbir_answer)(result >> 32);
+}
+
+static inline uint32_t kadalumbir_count_of(uint64_t result)
+{
+    return (uint32_t)(result & 0xffffffffu);
+}
+
+/* ---- checks: the count is that of the slots or entries that stand there; nothing is written */
+
+/* Refuses 1, 2. Stack: 700 bytes. */
+uint64_t kadalumbir_check_page(const uint8_t *page, size_t page_len);
+
+/* Refuses 3. Stack: 700 bytes. */
+uint64_t kadalumbir_check_log(const uint8_t *log, size_t log_len);
+
+/* Refuses 13. Stack: 100 bytes. */
+uint64_t kadalumbir_check_epochs(const uint8_t *table, size_t table_len);
+
+/* ---- lines: the count is that of the page's slots in `out` */
+
+/* Writes the page with the given slot, which is exactly one slot long, at its rising place.
+ * Refuses 1 (page), 1 (slot), 2, 9, 11, 8. Stack: 800 bytes. */
+uint64_t kadalumbir_insert(const uint8_t *page, size_t page_len, const uint8_t *slot, size_t slot_len, uint8_t *out,
+                           size_t out_len);
+
+/* Writes the page without the slot that has the given slot's name; the given line number is ignored.
+ * Refuses 1 (page), 1 (slot), 2, 10, 8. Stack: 800 bytes. */
+uint64_t kadalumbir_remove(const uint8_t *page, size_t page_len, const uint8_t *slot, size_t slot_len, uint8_t *out,
+                           size_t out_len);
+
+/* Writes one slot with line number 0 and a new name for the gap before slot `gap`, or after the last where `gap` is the
+ * number of slots. The author's (node, sequence) is taken as given: that it was never used before, which keeps two
+ * units' names apart, is the caller's affair. The count is 0, though a slot is written.
+ * Refuses 1, 2, 4, 16, 12, 6, 8. Stack: 1200 bytes. */
+uint64_t kadalumbir_new_name(const uint8_t *page, size_t page_len, size_t gap, uint16_t node, uint32_t sequence,
+                             uint8_t *out, size_t out_len);
+
+/* ---- renames: the count is that of the page's slots, which keep their order and their line numbers in `out` */
+
+/* Writes the page as the rename of the log by the author (node, sequence) makes it: the log's k-th name becomes one
+ * tuple with offset k, and other names change so that the order stays. A name gains at most one tuple.
+ * Refuses 1, 2, 3, 4, 5, 6, 8. Stack: 1500 bytes. */
+uint64_t kadalumbir_rename(const uint8_t *page, size_t page_len, const uint8_t *log, size_t log_len, uint16_t node,
+                           uint32_t sequence, uint8_t *out, size_t out_len);
+
+/* Writes the page, which has names of after that rename, with the names of before it.
+ * Refuses 1, 2, 3, 4, 6, 7, 8. Stack: 2700 bytes. */
+uint64_t kadalumbir_take_back(const uint8_t *page, size_t page_len, const uint8_t *log, size_t log_len, uint16_t node,
+                              uint32_t sequence, uint8_t *out, size_t out_len);
+
+/* ---- epochs: each entry of the table but the first is the rename of its node and sequence */
+
+enum { KADALUMBIR_STAY = 0, KADALUMBIR_UP = 1, KADALUMBIR_DOWN = 2 };
+
+/* Sets the next step from entry `current` to the epoch that all units go to: stay there, up to the parent (take that
+ * rename back), or down to a child (rename), and the index of the parent or child; the index is 0 for stay. Following
+ * it comes to the target after at most 31 steps. The count is 0.
+ * Refuses 13, 14. Stack: 3200 bytes. */
+uint64_t kadalumbir_next_step(const uint8_t *table, size_t table_len, size_t current, uint8_t *step, uint32_t *index);
+
+/* Writes the table with one more entry, of (node, sequence) under entry `parent`. The count is that of its entries.
+ * Refuses 13, 14, 4, 17, 18, 8. Stack: 100 bytes. */
+uint64_t kadalumbir_add_epoch(const uint8_t *table, size_t table_len, size_t parent, uint16_t node, uint32_t sequence,
+                              uint8_t *out, size_t out_len);
+
+#ifdef __cplusplus
+}
+#endif
+
+#endif
