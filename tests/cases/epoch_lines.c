@@ -1,111 +1,10 @@
 /*
- * The random lines for the program `epoch_cases`. Everything is made near the edges: few numbers, so that epochs meet in
- * node or sequence; chains, stars and what lies between; small tables and full ones; now and then something broken, an
- * index that is not there, or too little room.
+ * The random lines for the program `epoch_cases`: what epoch_parts.h makes, now and then with too little room.
  */
 #include <inttypes.h>
 #include <stdio.h>
 
-#include "../reference/epochs.h"
-#include "lines.h"
-
-enum {
-    ENTRIES = ENTRY_LIMIT + 2 /* the most entries of a line, and of its output */
-};
-
-/* ---- tables */
-
-/* The numbers of this line. */
-static Few nodes, sequences;
-
-/* One in how many entries has the entry before it as its parent, and one in how many others the first epoch. */
-static size_t chained, starred;
-
-static void choose_numbers(void)
-{
-    nodes = choose_few(all_nodes, LENGTH(all_nodes));
-    sequences = choose_few(all_sequences, LENGTH(all_sequences));
-    chained = 1 + random_below(4);
-    starred = 1 + random_below(4);
-}
-
-/* A row of entries: a table where nothing breaks its layout. */
-typedef struct {
-    size_t count;
-    Entry entries[ENTRIES];
-} Row;
-
-static bool is_listed(const Row *row, Entry entry)
-{
-    for (size_t i = 0; i < row->count; i++)
-        if (row->entries[i].node == entry.node && row->entries[i].sequence == entry.sequence)
-            return true;
-    return false;
-}
-
-/* A pair of this line's numbers, if a few trials find one that is not listed, or else of a sequence next to them. */
-static Entry random_epoch(const Row *row, uint16_t parent)
-{
-    Entry entry = {(uint16_t)one_of(&nodes), (uint32_t)one_of(&sequences), parent};
-    for (size_t trial = 0; is_listed(row, entry); trial++) {
-        entry.node = (uint16_t)one_of(&nodes);
-        entry.sequence = (uint32_t)one_of(&sequences) + (trial < 4 ? 0 : (uint32_t)random_below(2 * trial));
-    }
-    return entry;
-}
-
-static uint16_t random_parent(size_t index)
-{
-    if (once_in(chained))
-        return (uint16_t)(index - 1);
-    return (uint16_t)(once_in(starred) ? 0 : random_below(index));
-}
-
-static Row table_of(size_t count)
-{
-    Row row = {1, {{0, 0, 0}}};
-    while (row.count < count) {
-        row.entries[row.count] = random_epoch(&row, random_parent(row.count));
-        row.count++;
-    }
-    return row;
-}
-
-static Row random_table(void)
-{
-    if (once_in(8))
-        return table_of(ENTRY_LIMIT - random_below(2));
-    return table_of(1 + random_below(once_in(8) ? ENTRY_LIMIT : 7));
-}
-
-/* Breaks what an entry must be; a few of these are harmless. */
-static void damage(Row *row)
-{
-    size_t i = random_below(row->count), other = random_below(row->count);
-    Entry *entry = &row->entries[i];
-    switch (random_below(8)) {
-    case 0: row->entries[0].node = (uint16_t)one_of(&nodes); break;
-    case 1: row->entries[0].sequence = (uint32_t)one_of(&sequences); break;
-    case 2: row->entries[0].parent = (uint16_t)random_below(3); break;
-    case 3: entry->node = 0; break;
-    case 4: entry->parent = (uint16_t)(i + random_below(2)); break;
-    case 5: entry->parent = 65535; break;
-    case 6: *row = once_in(4) ? (Row){0, {{0, 0, 0}}} : table_of(ENTRY_LIMIT + 1 + random_below(2)); break;
-    default:
-        entry->node = row->entries[other].node;
-        if (!once_in(4))
-            entry->sequence = row->entries[other].sequence;
-        break;
-    }
-}
-
-static Row maybe_damaged_table(size_t times)
-{
-    Row row = random_table();
-    if (once_in(times))
-        damage(&row);
-    return row;
-}
+#include "epoch_parts.h"
 
 /* ---- writing a line */
 
@@ -117,16 +16,6 @@ static void put_entries(const Row *row)
         snprintf(text, sizeof text, " %" PRIu16 ".%" PRIu32 ".%" PRIu16, entry.node, entry.sequence, entry.parent);
         put(text);
     }
-}
-
-/* An index of the table, or now and then one that is not there. */
-static void put_index(const Row *row)
-{
-    static const int64_t beyond[] = {ENTRY_LIMIT, 65535, 65536, 4294967295};
-    if (row->count > 0 && !once_in(10))
-        put_number((int64_t)random_below(row->count));
-    else
-        put_number(once_in(2) ? (int64_t)row->count : beyond[random_below(LENGTH(beyond))]);
 }
 
 /* ---- lines */
@@ -141,16 +30,16 @@ static void table_line(void)
 static void step_line(void)
 {
     Row row = maybe_damaged_table(10);
-    put_index(&row);
+    put_number(random_index(&row));
     put_entries(&row);
 }
 
 static void add_line(void)
 {
     Row row = maybe_damaged_table(10);
-    Entry added = row.count > 1 && once_in(5) ? row.entries[random_below(row.count)] : random_epoch(&row, 0);
+    Entry added = epoch_to_add(&row);
     put_room((row.count + 1) * ENTRY_BYTES, ENTRIES * ENTRY_BYTES);
-    put_index(&row);
+    put_number(random_index(&row));
     put_node(added.node);
     put_number(added.sequence);
     put_entries(&row);
@@ -160,5 +49,5 @@ static const LineKind kinds[] = {{"table", table_line, 2}, {"step", step_line, 3
 
 int main(int argc, char **argv)
 {
-    return make_scripts(argc, argv, kinds, LENGTH(kinds), choose_numbers);
+    return make_scripts(argc, argv, kinds, LENGTH(kinds), choose_epoch_numbers);
 }

@@ -33,6 +33,18 @@ int64_t one_of(const Few *few)
 const int64_t all_nodes[] = {2, 1, 3, 256, 65534, 65535};
 const int64_t all_sequences[] = {0, 1, 2, 11, 2147483648, 4294967294, 4294967295};
 
+size_t random_room(size_t enough, size_t most)
+{
+    switch (random_below(8)) {
+    case 0: return enough > 0 ? enough - 1 : 0;
+    case 1: return random_below(enough + 1);
+    case 2: return enough + 1;
+    case 3: return most;
+    case 4: return 4294967295;
+    default: return enough;
+    }
+}
+
 /* ---- writing a line */
 
 static char line[LONGEST_LINE];
@@ -52,14 +64,7 @@ void put_number(int64_t number)
 
 void put_room(size_t enough, size_t most)
 {
-    switch (random_below(8)) {
-    case 0: put_number(enough > 0 ? (int64_t)enough - 1 : 0); break;
-    case 1: put_number((int64_t)random_below(enough + 1)); break;
-    case 2: put_number((int64_t)enough + 1); break;
-    case 3: put_number((int64_t)most); break;
-    case 4: put_number(4294967295); break;
-    default: put_number((int64_t)enough); break;
-    }
+    put_number((int64_t)random_room(enough, most));
 }
 
 void put_node(uint16_t node)

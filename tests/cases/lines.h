@@ -33,7 +33,9 @@ extern const int64_t all_nodes[6], all_sequences[7];
 void put(const char *text);
 void put_number(int64_t number);
 
-/* Room for the bytes of a result: mostly enough of it, or just enough, or too little. The output has `most` bytes. */
+/* Room for the bytes of a result: mostly enough of it, or just enough, or too little; or more than the `most` bytes that an
+ * output has. */
+size_t random_room(size_t enough, size_t most);
 void put_room(size_t enough, size_t most);
 
 /* The node of an author, now and then none; the program takes it modulo 65536. */
