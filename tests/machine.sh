@@ -6,12 +6,15 @@ x86_64_root=/usr/x86_64-linux-gnu
 # Each is THING=PACKAGE: a command or a file, and the package that brings it.
 needed=(gcc=gcc /usr/include/stdio.h=libc6-dev make=make)
 
+# emulator runs such a program; x86_64_tools stands before the name of a tool (gcc, nm, objdump) for such programs.
 case $(uname -m) in
 x86_64)
     emulator=()
+    x86_64_tools=
     ;;
 aarch64 | arm64)
     emulator=(qemu-x86_64 -L "$x86_64_root")
+    x86_64_tools=x86_64-linux-gnu-
     needed+=(
         qemu-x86_64=qemu-user
         x86_64-linux-gnu-gcc=gcc-x86-64-linux-gnu
@@ -25,9 +28,9 @@ aarch64 | arm64)
     ;;
 esac
 
-# Runs a program made by rt. One that does not end within a minute is stopped, with status 124.
+# Runs a program for x86-64. One that does not end within a minute, or within program_seconds, is stopped, with status 124.
 run_program() { # PROGRAM [WORD..]
-    timeout 60 "${emulator[@]}" "$@"
+    timeout "${program_seconds:-60}" "${emulator[@]}" "$@"
 }
 
 # Prints the package of each thing that is not there.

@@ -1,0 +1,109 @@
+#include "bytes.h"
+
+#include <string.h>
+
+uint32_t random_line(void)
+{
+    static const uint32_t lines[] = {0, 1, 255, 256, 65536, 2147483648, 4294967295};
+    return once_in(2) ? lines[random_below(LENGTH(lines))] : (uint32_t)random_word();
+}
+
+void add_slot(Bytes *bytes, uint32_t line, const Name *name)
+{
+    Slot slot = {line, *name};
+    write_slot(bytes->bytes + bytes->length, &slot);
+    bytes->length += SLOT_BYTES;
+}
+
+size_t slots_of(const Bytes *bytes)
+{
+    return bytes->length / SLOT_BYTES;
+}
+
+void copy_slot(const Bytes *page, size_t at, Bytes *slot)
+{
+    slot->length = SLOT_BYTES;
+    memcpy(slot->bytes, page->bytes + at * SLOT_BYTES, SLOT_BYTES);
+}
+
+void make_page(Bytes *page, const Names *names)
+{
+    page->length = 0;
+    for (size_t i = 0; i < names->count; i++)
+        add_slot(page, random_line(), &names->names[i]);
+}
+
+void make_log(Bytes *log, const Names *names)
+{
+    log->length = 0;
+    for (size_t i = 0; i < names->count; i++)
+        add_slot(log, 0, &names->names[i]);
+}
+
+void log_of(const Bytes *page, Bytes *log)
+{
+    log->length = page->length;
+    memcpy(log->bytes, page->bytes, page->length);
+    for (size_t at = 0; at < log->length; at += SLOT_BYTES)
+        memset(log->bytes + at + 4, 0, 4);
+}
+
+static void change_byte(Bytes *bytes)
+{
+    static const uint8_t values[] = {0, 1, 8, 9, 127, 128, 255};
+    size_t at = random_below(bytes->length);
+    if (once_in(2))
+        bytes->bytes[at] = values[random_below(LENGTH(values))];
+    else
+        bytes->bytes[at] ^= (uint8_t)(1 << random_below(8));
+}
+
+static void swap_pieces(Bytes *bytes, size_t piece)
+{
+    size_t pieces = bytes->length / piece;
+    if (pieces == 0)
+        return;
+    uint8_t held[SLOT_BYTES];
+    uint8_t *a = bytes->bytes + random_below(pieces) * piece, *b = bytes->bytes + random_below(pieces) * piece;
+    memcpy(held, a, piece);
+    memmove(a, b, piece);
+    if (once_in(2))
+        memcpy(b, held, piece);
+}
+
+static void add_bytes(Bytes *bytes, size_t count)
+{
+    for (size_t i = 0; i < count && bytes->length < MOST_BYTES; i++)
+        bytes->bytes[bytes->length++] = (uint8_t)(once_in(2) ? 0 : random_word());
+}
+
+void damage_bytes(Bytes *bytes, size_t piece)
+{
+    size_t several = once_in(2) ? 1 : random_below(2 * piece);
+    switch (random_below(5)) {
+    case 0: bytes->length -= several < bytes->length ? several : bytes->length; break;
+    case 1: add_bytes(bytes, several); break;
+    case 2: swap_pieces(bytes, piece); break;
+    default:
+        if (bytes->length > 0)
+            change_byte(bytes);
+        break;
+    }
+}
+
+void maybe_damage_bytes(size_t times, Bytes *bytes, size_t piece)
+{
+    if (once_in(times))
+        damage_bytes(bytes, piece);
+}
+
+size_t room_for(size_t bytes)
+{
+    size_t room = random_room(bytes, PAGE_BYTES);
+    return room <= MOST_BYTES ? room : MOST_BYTES;
+}
+
+uint16_t maybe_no_node(uint16_t node)
+{
+    return once_in(25) ? 0 : node;
+}

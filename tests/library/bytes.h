@@ -1,0 +1,36 @@
+/* The bytes of inputs, and what may be wrong with them. */
+#ifndef TESTS_LIBRARY_BYTES_H
+#define TESTS_LIBRARY_BYTES_H
+
+#include "../cases/name_lines.h"
+#include "hold.h"
+
+/* A line number, the edges among them. */
+uint32_t random_line(void);
+
+void add_slot(Bytes *bytes, uint32_t line, const Name *name);
+size_t slots_of(const Bytes *bytes);
+
+/* A slot of a page, alone. */
+void copy_slot(const Bytes *page, size_t at, Bytes *slot);
+
+/* Slots with random line numbers, and with line number 0. */
+void make_page(Bytes *page, const Names *names);
+void make_log(Bytes *log, const Names *names);
+
+/* The slots of a page with line number 0: the log of a rename that makes all of its names short. */
+void log_of(const Bytes *page, Bytes *log);
+
+/* A byte changed, a few bytes cut off or added, or two pieces of so many bytes swapped. Some changes are harmless. */
+void damage_bytes(Bytes *bytes, size_t piece);
+
+/* The same once in so many times. */
+void maybe_damage_bytes(size_t times, Bytes *bytes, size_t piece);
+
+/* Room for a result, as random_room says. */
+size_t room_for(size_t bytes);
+
+/* The node of an author, now and then 0. */
+uint16_t maybe_no_node(uint16_t node);
+
+#endif

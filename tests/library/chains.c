@@ -1,0 +1,161 @@
+/* Chains of calls on one book. */
+#include <string.h>
+
+#include "../cases/book_parts.h"
+#include "bytes.h"
+#include "sorts.h"
+
+/* The renames that the book has had and that are not taken back, each with its log and author. */
+enum { RENAMES = 3 };
+
+static struct {
+    Bytes log;
+    uint16_t node;
+    uint32_t sequence;
+} renames[RENAMES];
+
+static size_t renamed;
+
+static Bytes page, slot, spoilt;
+
+/* The unit that edits; each of its new names has a sequence of its own. */
+static uint16_t unit;
+static uint32_t next_sequence;
+
+/* Whether new names are mostly asked for at one place, so that they nest. */
+static bool crowded;
+
+static size_t choose_gap(void)
+{
+    size_t slots = slots_of(&page);
+    return crowded && !once_in(4) ? slots / 2 : random_below(slots + 1);
+}
+
+/* Mostly enough room, so that the chain goes on. */
+static size_t chain_room(size_t bytes)
+{
+    return once_in(20) ? room_for(bytes) : bytes;
+}
+
+static void insert_new_line(void)
+{
+    size_t gap = choose_gap();
+    if (hold_new_name(&page, gap, unit, next_sequence++, chain_room(SLOT_BYTES)).answer != ACCEPTED)
+        return;
+    take_output(&slot, SLOT_BYTES);
+    slot.bytes[7] = (uint8_t)next_sequence;
+    Outcome outcome = hold_insert(&page, &slot, chain_room(page.length + SLOT_BYTES));
+    if (outcome.answer == ACCEPTED)
+        take_output(&page, outcome.count * SLOT_BYTES);
+}
+
+static void remove_line(void)
+{
+    if (slots_of(&page) == 0)
+        return;
+    copy_slot(&page, random_below(slots_of(&page)), &slot);
+    Outcome outcome = hold_remove(&page, &slot, chain_room(page.length - SLOT_BYTES));
+    if (outcome.answer == ACCEPTED)
+        take_output(&page, outcome.count * SLOT_BYTES);
+}
+
+/* A line of the last rename's parent epoch, which another unit sent before it heard of the rename. */
+static void insert_late_line(void)
+{
+    if (renamed == 0)
+        return;
+    const Bytes *log = &renames[renamed - 1].log;
+    if (hold_new_name(log, random_below(slots_of(log) + 1), unit, next_sequence++, SLOT_BYTES).answer != ACCEPTED)
+        return;
+    take_output(&slot, SLOT_BYTES);
+    if (hold_rename(&slot, log, renames[renamed - 1].node, renames[renamed - 1].sequence, SLOT_BYTES).answer != ACCEPTED)
+        return;
+    take_output(&slot, SLOT_BYTES);
+    Outcome outcome = hold_insert(&page, &slot, page.length + SLOT_BYTES);
+    if (outcome.answer == ACCEPTED)
+        take_output(&page, outcome.count * SLOT_BYTES);
+}
+
+/* The page with something wrong, from which the chain does not go on. */
+static void try_spoilt(void)
+{
+    spoilt.length = page.length;
+    memcpy(spoilt.bytes, page.bytes, page.length);
+    damage_bytes(&spoilt, SLOT_BYTES);
+    switch (random_below(3)) {
+    case 0: hold_check_page(&spoilt); break;
+    case 1: hold_new_name(&spoilt, choose_gap(), unit, next_sequence, SLOT_BYTES); break;
+    default:
+        if (renamed > 0)
+            hold_take_back(&spoilt, &renames[renamed - 1].log, renames[renamed - 1].node, renames[renamed - 1].sequence,
+                           room_for(spoilt.length));
+        break;
+    }
+}
+
+static void edit(size_t times)
+{
+    for (size_t i = 0; i < times; i++) {
+        if (once_in(12))
+            try_spoilt();
+        if (once_in(5))
+            remove_line();
+        else if (once_in(4))
+            insert_late_line();
+        else
+            insert_new_line();
+    }
+}
+
+/* Renames the whole book, or a part of it: the log of a unit that has not seen all lines yet, or of one that has more. */
+static void rename_book(void)
+{
+    if (renamed == RENAMES || page.length == 0)
+        return;
+    Bytes *log = &renames[renamed].log;
+    log_of(&page, log);
+    for (size_t i = random_below(4); i > 0 && once_in(2); i--)
+        remove_line();
+    uint16_t node = (uint16_t)(1 + random_below(3));
+    uint32_t sequence = once_in(10) ? random_below(2) : next_sequence++;
+    Outcome outcome = hold_rename(&page, log, node, sequence, chain_room(page.length));
+    if (outcome.answer != ACCEPTED)
+        return;
+    take_output(&page, outcome.count * SLOT_BYTES);
+    renames[renamed].node = node;
+    renames[renamed].sequence = sequence;
+    renamed++;
+}
+
+static void take_book_back(void)
+{
+    if (renamed == 0)
+        return;
+    renamed--;
+    Outcome outcome = hold_take_back(&page, &renames[renamed].log, renames[renamed].node, renames[renamed].sequence,
+                                     chain_room(page.length));
+    if (outcome.answer == ACCEPTED)
+        take_output(&page, outcome.count * SLOT_BYTES);
+}
+
+void book_chain(void)
+{
+    page.length = 0;
+    renamed = 0;
+    unit = (uint16_t)(1 + random_below(3));
+    next_sequence = 0;
+    crowded = once_in(2);
+    edit(once_in(60) ? 400 : random_below(24));
+    for (size_t i = 1 + random_below(4); i > 0; i--) {
+        if (once_in(3))
+            take_book_back();
+        else
+            rename_book();
+        edit(random_below(12));
+    }
+    while (renamed > 0) {
+        take_book_back();
+        edit(random_below(4));
+    }
+    hold_check_page(&page);
+}

@@ -1,0 +1,49 @@
+/*
+ * driver SEED CASES LEAST: holds the library to the plain C of tests/reference on at least so many random cases, the same
+ * for the same seed, and prints how often each answer of each call was met. Fails if a case differs, or if an answer was met
+ * fewer than LEAST times.
+ */
+#include <stdio.h>
+#include <stdlib.h>
+
+#include "../cases/lines.h"
+#include "hold.h"
+#include "sorts.h"
+
+static const struct {
+    void (*run)(void);
+    size_t share;
+} sorts[] = {
+    {check_case, 10},     {insert_case, 25},    {remove_case, 20},     {gap_case, 30},  {rename_case, 60},
+    {take_back_case, 60}, {table_case, 10},     {step_case, 15},       {add_case, 30},  {long_check_case, 2},
+    {long_edit_case, 10}, {long_rename_case, 3}, {book_chain, 4},      {epoch_chain, 2},
+};
+
+static size_t all_shares(void)
+{
+    size_t shares = 0;
+    for (size_t i = 0; i < LENGTH(sorts); i++)
+        shares += sorts[i].share;
+    return shares;
+}
+
+static void run_one(size_t drawn)
+{
+    size_t i = 0;
+    while (drawn >= sorts[i].share)
+        drawn -= sorts[i++].share;
+    sorts[i].run();
+}
+
+int main(int argc, char **argv)
+{
+    if (argc != 4) {
+        fputs("usage: driver SEED CASES LEAST\n", stderr);
+        return EXIT_FAILURE;
+    }
+    start_random(strtoull(argv[1], NULL, 10));
+    size_t cases = strtoull(argv[2], NULL, 10), least = strtoull(argv[3], NULL, 10), shares = all_shares();
+    while (cases_held() < cases)
+        run_one(random_below(shares));
+    return tell_what_was_met(least) ? EXIT_SUCCESS : EXIT_FAILURE;
+}

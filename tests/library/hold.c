@@ -1,0 +1,316 @@
+/* For MAP_ANONYMOUS, which is not in C99. */
+#define _DEFAULT_SOURCE
+
+#include "hold.h"
+
+#include <inttypes.h>
+#include <signal.h>
+#include <stdio.h>
+#include <stdlib.h>
+#include <string.h>
+#include <sys/mman.h>
+
+#include "../../include/kadalumbir.h"
+#include "../reference/chance.h"
+#include "../reference/edits.h"
+#include "../reference/epochs.h"
+#include "../reference/renames.h"
+
+/* ---- the calls, what was met of them, and what differed */
+
+typedef enum {
+    CHECK_PAGE,
+    CHECK_LOG,
+    CHECK_EPOCHS,
+    INSERT_SLOT,
+    REMOVE_SLOT,
+    NEW_NAME,
+    RENAME_PAGE,
+    TAKE_BACK,
+    NEXT_STEP,
+    ADD_EPOCH,
+    CALLS
+} Call;
+
+enum { ANSWERS = 19, DIFFERENCES_TOLD = 10 };
+
+/* Of each call the answers that 01 has for it, ended by -1: "Order" of "What comes back". */
+static const struct {
+    const char *name;
+    int answers[10];
+} calls[CALLS] = {
+    [CHECK_PAGE] = {"check_page", {0, 1, 2, -1}},
+    [CHECK_LOG] = {"check_log", {0, 3, -1}},
+    [CHECK_EPOCHS] = {"check_epochs", {0, 13, -1}},
+    [INSERT_SLOT] = {"insert", {0, 1, 2, 9, 11, 8, -1}},
+    [REMOVE_SLOT] = {"remove", {0, 1, 2, 10, 8, -1}},
+    [NEW_NAME] = {"new_name", {0, 1, 2, 4, 16, 12, 6, 8, -1}},
+    [RENAME_PAGE] = {"rename", {0, 1, 2, 3, 4, 5, 6, 8, -1}},
+    [TAKE_BACK] = {"take_back", {0, 1, 2, 3, 4, 6, 7, 8, -1}},
+    [NEXT_STEP] = {"next_step", {0, 13, 14, -1}},
+    [ADD_EPOCH] = {"add_epoch", {0, 13, 14, 4, 17, 18, 8, -1}},
+};
+
+static size_t met[CALLS][ANSWERS], held, differences;
+
+/* The call of this case. */
+static Call call;
+
+size_t cases_held(void)
+{
+    return held;
+}
+
+static void differs(const char *what, uint64_t is, uint64_t must)
+{
+    if (differences++ < DIFFERENCES_TOLD)
+        printf("case %zu, %s: %s is %" PRIu64 " and must be %" PRIu64 "\n", held, calls[call].name, what, is, must);
+}
+
+static void hold_number(const char *what, uint64_t is, uint64_t must)
+{
+    if (is != must)
+        differs(what, is, must);
+}
+
+/* Ends the driver where a byte is reached that was not lent. */
+static void tell_fault(int signal_number)
+{
+    (void)signal_number;
+    printf("case %zu, %s: a byte is reached that was not lent\n", held, calls[call].name);
+    fflush(stdout);
+    _Exit(EXIT_FAILURE);
+}
+
+/* ---- what the library is lent: bytes that end where memory ends, so that one byte too far is a fault */
+
+enum { FRONT = 64 /* bytes before an output that must stay, too */ };
+
+typedef struct {
+    uint8_t *end;
+    uint8_t *bytes; /* what is lent now; a null pointer now and then where the length is 0 */
+    size_t length;
+    const Bytes *given; /* of an input, what must stay there */
+} Lent;
+
+static Lent first, second, output;
+
+/* What the plain C works on: the same canaries, FRONT bytes before the output. */
+static uint8_t must_bytes[FRONT + MOST_BYTES];
+
+static void make_memory(Lent *lent)
+{
+    enum { MEMORY_PAGE = 4096, SIZE = (FRONT + MOST_BYTES + MEMORY_PAGE - 1) / MEMORY_PAGE * MEMORY_PAGE };
+    uint8_t *start = mmap(NULL, SIZE + MEMORY_PAGE, PROT_READ | PROT_WRITE, MAP_PRIVATE | MAP_ANONYMOUS, -1, 0);
+    if (start == MAP_FAILED || mprotect(start + SIZE, MEMORY_PAGE, PROT_NONE) != 0) {
+        perror("memory");
+        exit(EXIT_FAILURE);
+    }
+    signal(SIGSEGV, tell_fault);
+    lent->end = start + SIZE;
+}
+
+static void lend(Lent *lent, size_t length)
+{
+    if (lent->end == NULL)
+        make_memory(lent);
+    lent->length = length;
+    lent->bytes = length == 0 && random_below(2) == 0 ? NULL : lent->end - length;
+}
+
+static void lend_input(Lent *lent, const Bytes *input)
+{
+    lend(lent, input->length);
+    lent->given = input;
+    memcpy(lent->end - input->length, input->bytes, input->length);
+}
+
+static void lend_output(size_t room)
+{
+    uint8_t canary = (uint8_t)random_below(256);
+    lend(&output, room);
+    uint8_t *front = output.end - room - FRONT;
+    for (size_t i = 0; i < FRONT + room; i++)
+        front[i] = must_bytes[i] = (uint8_t)(canary + 7 * i);
+}
+
+/* Begins a case: its call, one or two inputs, and the room of its output. */
+static void begin(Call begun, const Bytes *a, const Bytes *b, size_t room)
+{
+    static const Bytes nothing;
+    call = begun;
+    lend_input(&first, a);
+    lend_input(&second, b != NULL ? b : &nothing);
+    lend_output(room);
+}
+
+static void hold_input(const Lent *lent)
+{
+    if (memcmp(lent->end - lent->length, lent->given->bytes, lent->length) != 0)
+        differs("whether an input changed", 1, 0);
+}
+
+static void hold_output(void)
+{
+    const uint8_t *is = output.end - output.length - FRONT;
+    if (memcmp(is, must_bytes, FRONT + output.length) == 0)
+        return;
+    size_t i = 0;
+    while (is[i] == must_bytes[i])
+        i++;
+    char what[64];
+    snprintf(what, sizeof what, "byte %d of the output", (int)i - FRONT);
+    differs(what, is[i], must_bytes[i]);
+}
+
+void take_output(Bytes *taken, size_t length)
+{
+    taken->length = length;
+    memcpy(taken->bytes, output.end - output.length, length);
+}
+
+/* ---- calls */
+
+/* Ends a case. */
+static Outcome hold(uint64_t is, Outcome must)
+{
+    hold_input(&first);
+    hold_input(&second);
+    hold_output();
+    hold_number("the answer", kadalumbir_answer_of(is), (uint64_t)must.answer);
+    hold_number("the count", kadalumbir_count_of(is), must.count);
+    met[call][must.answer]++;
+    held++;
+    return must;
+}
+
+/* Of a check: "accepted; with the count of slots, entries" that stand there. */
+static Outcome checked(int answer, const Bytes *input, size_t piece)
+{
+    Outcome outcome = {answer, answer == ACCEPTED ? input->length / piece : 0};
+    return outcome;
+}
+
+Outcome hold_check_page(const Bytes *page)
+{
+    begin(CHECK_PAGE, page, NULL, 0);
+    uint64_t is = kadalumbir_check_page(first.bytes, first.length);
+    return hold(is, checked(check_page(page->bytes, page->length), page, SLOT_BYTES));
+}
+
+Outcome hold_check_log(const Bytes *log)
+{
+    begin(CHECK_LOG, log, NULL, 0);
+    uint64_t is = kadalumbir_check_log(first.bytes, first.length);
+    return hold(is, checked(check_log(log->bytes, log->length), log, SLOT_BYTES));
+}
+
+Outcome hold_check_epochs(const Bytes *table)
+{
+    begin(CHECK_EPOCHS, table, NULL, 0);
+    uint64_t is = kadalumbir_check_epochs(first.bytes, first.length);
+    return hold(is, checked(check_table(table->bytes, table->length), table, ENTRY_BYTES));
+}
+
+Outcome hold_insert(const Bytes *page, const Bytes *slot, size_t room)
+{
+    begin(INSERT_SLOT, page, slot, room);
+    uint64_t is = kadalumbir_insert(first.bytes, first.length, second.bytes, second.length, output.bytes, room);
+    Outcome must = insert_slot(page->bytes, page->length, slot->bytes, slot->length, must_bytes + FRONT, room);
+    return hold(is, must);
+}
+
+Outcome hold_remove(const Bytes *page, const Bytes *slot, size_t room)
+{
+    begin(REMOVE_SLOT, page, slot, room);
+    uint64_t is = kadalumbir_remove(first.bytes, first.length, second.bytes, second.length, output.bytes, room);
+    Outcome must = remove_slot(page->bytes, page->length, slot->bytes, slot->length, must_bytes + FRONT, room);
+    return hold(is, must);
+}
+
+/* "0 for a new name": the name is written as one slot with line number 0, and 8 is asked last. */
+static Outcome name_written(int answer, const Name *name, size_t room)
+{
+    if (answer == ACCEPTED && room < SLOT_BYTES)
+        answer = OUTPUT_SHORT;
+    if (answer == ACCEPTED) {
+        Slot slot = {0, *name};
+        write_slot(must_bytes + FRONT, &slot);
+    }
+    return refused(answer);
+}
+
+Outcome hold_new_name(const Bytes *page, size_t gap, uint16_t node, uint32_t sequence, size_t room)
+{
+    begin(NEW_NAME, page, NULL, room);
+    uint64_t is = kadalumbir_new_name(first.bytes, first.length, gap, node, sequence, output.bytes, room);
+    Name name;
+    Outcome must = name_written(new_name(page->bytes, page->length, gap, node, sequence, &name), &name, room);
+    return hold(is, must);
+}
+
+Outcome hold_rename(const Bytes *page, const Bytes *log, uint16_t node, uint32_t sequence, size_t room)
+{
+    begin(RENAME_PAGE, page, log, room);
+    uint64_t is = kadalumbir_rename(first.bytes, first.length, second.bytes, second.length, node, sequence,
+                                    output.bytes, room);
+    Outcome must = rename_page(page->bytes, page->length, log->bytes, log->length, node, sequence, must_bytes + FRONT,
+                               room);
+    return hold(is, must);
+}
+
+Outcome hold_take_back(const Bytes *page, const Bytes *log, uint16_t node, uint32_t sequence, size_t room)
+{
+    begin(TAKE_BACK, page, log, room);
+    uint64_t is = kadalumbir_take_back(first.bytes, first.length, second.bytes, second.length, node, sequence,
+                                       output.bytes, room);
+    Outcome must = take_page_back(page->bytes, page->length, log->bytes, log->length, node, sequence,
+                                  must_bytes + FRONT, room);
+    return hold(is, must);
+}
+
+Outcome hold_next_step(const Bytes *table, size_t current, uint8_t *step, uint32_t *index)
+{
+    begin(NEXT_STEP, table, NULL, 0);
+    *step = (uint8_t)random_word();
+    *index = (uint32_t)random_word();
+    uint64_t is = kadalumbir_next_step(first.bytes, first.length, current, step, index);
+    NextStep next = next_step(table->bytes, table->length, current);
+    hold_number("the step", *step, (uint64_t)next.step);
+    hold_number("the index", *index, next.index);
+    return hold(is, refused(next.answer));
+}
+
+Outcome hold_add_epoch(const Bytes *table, size_t parent, uint16_t node, uint32_t sequence, size_t room)
+{
+    begin(ADD_EPOCH, table, NULL, room);
+    uint64_t is = kadalumbir_add_epoch(first.bytes, first.length, parent, node, sequence, output.bytes, room);
+    Outcome must = add_epoch(table->bytes, table->length, parent, node, sequence, must_bytes + FRONT, room);
+    return hold(is, must);
+}
+
+/* ---- what was met */
+
+static bool tell_call(Call of, size_t least)
+{
+    bool enough = true;
+    printf("  %s", calls[of].name);
+    for (const int *answer = calls[of].answers; *answer >= 0; answer++) {
+        size_t times = met[of][*answer];
+        printf("%s %d: %zu%s", answer == calls[of].answers ? "" : ",", *answer, times, times < least ? " TOO FEW" : "");
+        enough = enough && times >= least;
+    }
+    printf("\n");
+    return enough;
+}
+
+bool tell_what_was_met(size_t least)
+{
+    bool enough = true;
+    printf("%zu cases, %zu differences; how often each answer was met:\n", held, differences);
+    for (int of = 0; of < CALLS; of++)
+        enough = tell_call((Call)of, least) && enough;
+    if (!enough)
+        printf("an answer was met fewer than %zu times\n", least);
+    return enough && differences == 0;
+}

@@ -1,0 +1,42 @@
+/*
+ * Holds the library to the plain C of tests/reference: each function here calls both with the same arguments and compares
+ * the answer, the count, the single numbers that are given, and every byte that the library was lent.
+ */
+#ifndef TESTS_LIBRARY_HOLD_H
+#define TESTS_LIBRARY_HOLD_H
+
+#include "../reference/book.h"
+
+enum {
+    MOST_BYTES = PAGE_BYTES + 2 * SLOT_BYTES /* of an input or an output */
+};
+
+/* An input, or what a call has written. */
+typedef struct {
+    size_t length;
+    uint8_t bytes[MOST_BYTES];
+} Bytes;
+
+/* Each gives the answer and the count of the plain C, and counts the case. An output has room bytes. */
+Outcome hold_check_page(const Bytes *page);
+Outcome hold_check_log(const Bytes *log);
+Outcome hold_check_epochs(const Bytes *table);
+Outcome hold_insert(const Bytes *page, const Bytes *slot, size_t room);
+Outcome hold_remove(const Bytes *page, const Bytes *slot, size_t room);
+Outcome hold_new_name(const Bytes *page, size_t gap, uint16_t node, uint32_t sequence, size_t room);
+Outcome hold_rename(const Bytes *page, const Bytes *log, uint16_t node, uint32_t sequence, size_t room);
+Outcome hold_take_back(const Bytes *page, const Bytes *log, uint16_t node, uint32_t sequence, size_t room);
+Outcome hold_next_step(const Bytes *table, size_t current, uint8_t *step, uint32_t *index);
+Outcome hold_add_epoch(const Bytes *table, size_t parent, uint16_t node, uint32_t sequence, size_t room);
+
+/* The first bytes of the output of the last call, as the library left them. */
+void take_output(Bytes *taken, size_t length);
+
+/* How many cases were held. */
+size_t cases_held(void);
+
+/* Prints how often each answer of each call was met. Whether no case differed, and each answer that 01 has for a call was met
+ * at least so often. */
+bool tell_what_was_met(size_t least);
+
+#endif

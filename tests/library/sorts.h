@@ -1,0 +1,26 @@
+/* The sorts of cases that the driver draws. */
+#ifndef TESTS_LIBRARY_SORTS_H
+#define TESTS_LIBRARY_SORTS_H
+
+/* One call with random arguments. */
+void check_case(void);
+void insert_case(void);
+void remove_case(void);
+void gap_case(void);
+void rename_case(void);
+void take_back_case(void);
+void table_case(void);
+void step_case(void);
+void add_case(void);
+
+/* The same with a page, a log or both of up to 256 slots. */
+void long_check_case(void);
+void long_edit_case(void);
+void long_rename_case(void);
+
+/* Many calls, each with what the library gave before: edits, a rename, edits, the taking back; a table that grows, walked to
+ * its target each time. */
+void book_chain(void);
+void epoch_chain(void);
+
+#endif
