@@ -1,4 +1,6 @@
-.PHONY: run test cost clean
+.PHONY: run test cost install clean
+
+PREFIX = /usr/local
 
 # Proves the crates and lists the sample book.
 run:
@@ -11,6 +13,10 @@ test:
 # What the check of each crate costs.
 cost:
 	@tests/cost
+
+# The header, the archive and a pkg-config file, to PREFIX under DESTDIR.
+install:
+	@scripts/install "$(PREFIX)" "$(DESTDIR)"
 
 clean:
 	rm -rf target
