@@ -96,26 +96,6 @@ void take_back_case(void)
 
 /* ---- long pages and logs */
 
-/* So many slots with the names of a long log, some of them deeper. */
-static void make_long_page(Bytes *bytes, size_t slots, bool log)
-{
-    bytes->length = 0;
-    for (size_t i = 0; i < slots; i++) {
-        Name name = long_logged_name(i);
-        if (once_in(8))
-            name = deepened(name);
-        add_slot(bytes, log ? 0 : random_line(), &name);
-    }
-}
-
-/* Mostly 256 or next to it. */
-static size_t long_count(void)
-{
-    if (once_in(2))
-        return SLOT_LIMIT;
-    return once_in(2) ? SLOT_LIMIT - 1 + random_below(3) : random_below(SLOT_LIMIT);
-}
-
 void long_check_case(void)
 {
     choose_numbers();

@@ -2,6 +2,8 @@
 
 #include <string.h>
 
+#include "../cases/book_parts.h"
+
 uint32_t random_line(void)
 {
     static const uint32_t lines[] = {0, 1, 255, 256, 65536, 2147483648, 4294967295};
@@ -38,6 +40,24 @@ void make_log(Bytes *log, const Names *names)
     log->length = 0;
     for (size_t i = 0; i < names->count; i++)
         add_slot(log, 0, &names->names[i]);
+}
+
+void make_long_page(Bytes *bytes, size_t slots, bool log)
+{
+    bytes->length = 0;
+    for (size_t i = 0; i < slots; i++) {
+        Name name = long_logged_name(i);
+        if (once_in(8))
+            name = deepened(name);
+        add_slot(bytes, log ? 0 : random_line(), &name);
+    }
+}
+
+size_t long_count(void)
+{
+    if (once_in(2))
+        return SLOT_LIMIT;
+    return once_in(2) ? SLOT_LIMIT - 1 + random_below(3) : random_below(SLOT_LIMIT);
 }
 
 void log_of(const Bytes *page, Bytes *log)

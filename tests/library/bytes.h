@@ -18,6 +18,10 @@ void copy_slot(const Bytes *page, size_t at, Bytes *slot);
 void make_page(Bytes *page, const Names *names);
 void make_log(Bytes *log, const Names *names);
 
+/* So many slots with the names of a long log, some of them deeper; mostly 256 or next to it. */
+void make_long_page(Bytes *bytes, size_t slots, bool log);
+size_t long_count(void);
+
 /* The slots of a page with line number 0: the log of a rename that makes all of its names short. */
 void log_of(const Bytes *page, Bytes *log);
 

@@ -29,6 +29,8 @@ typedef enum {
     TAKE_BACK,
     NEXT_STEP,
     ADD_EPOCH,
+    WRITE_MESSAGE,
+    READ_MESSAGE,
     CALLS
 } Call;
 
@@ -49,6 +51,8 @@ static const struct {
     [TAKE_BACK] = {"take_back", {0, 1, 2, 3, 4, 6, 7, 8, -1}},
     [NEXT_STEP] = {"next_step", {0, 13, 14, -1}},
     [ADD_EPOCH] = {"add_epoch", {0, 13, 14, 4, 17, 18, 8, -1}},
+    [WRITE_MESSAGE] = {"write_message", {0, 15, 8, -1}},
+    [READ_MESSAGE] = {"read_message", {0, 15, 8, -1}},
 };
 
 static size_t met[CALLS][ANSWERS], held, differences;
@@ -286,6 +290,34 @@ Outcome hold_add_epoch(const Bytes *table, size_t parent, uint16_t node, uint32_
     begin(ADD_EPOCH, table, NULL, room);
     uint64_t is = kadalumbir_add_epoch(first.bytes, first.length, parent, node, sequence, output.bytes, room);
     Outcome must = add_epoch(table->bytes, table->length, parent, node, sequence, must_bytes + FRONT, room);
+    return hold(is, must);
+}
+
+Outcome hold_write_message(const Numbers *numbers, const Bytes *names, size_t room)
+{
+    begin(WRITE_MESSAGE, names, NULL, room);
+    uint64_t is = kadalumbir_write_message(numbers->kind, numbers->epoch.node, numbers->epoch.sequence,
+                                           numbers->author.node, numbers->author.sequence, numbers->line, first.bytes,
+                                           first.length, output.bytes, room);
+    Outcome must = write_message(numbers, names->bytes, names->length, must_bytes + FRONT, room);
+    return hold(is, must);
+}
+
+Outcome hold_read_message(const Bytes *message, Numbers *numbers, size_t room)
+{
+    begin(READ_MESSAGE, message, NULL, room);
+    memset(numbers, (int)random_below(256), sizeof *numbers);
+    uint64_t is = kadalumbir_read_message(first.bytes, first.length, &numbers->kind, &numbers->epoch.node,
+                                          &numbers->epoch.sequence, &numbers->author.node, &numbers->author.sequence,
+                                          &numbers->line, output.bytes, room);
+    Numbers said;
+    Outcome must = read_message(message->bytes, message->length, &said, must_bytes + FRONT, room);
+    hold_number("the kind", numbers->kind, said.kind);
+    hold_number("the epoch's node", numbers->epoch.node, said.epoch.node);
+    hold_number("the epoch's sequence", numbers->epoch.sequence, said.epoch.sequence);
+    hold_number("the author's node", numbers->author.node, said.author.node);
+    hold_number("the author's sequence", numbers->author.sequence, said.author.sequence);
+    hold_number("the line number", numbers->line, said.line);
     return hold(is, must);
 }
 

@@ -5,7 +5,7 @@
 #ifndef TESTS_LIBRARY_HOLD_H
 #define TESTS_LIBRARY_HOLD_H
 
-#include "../reference/book.h"
+#include "../reference/messages.h"
 
 enum {
     MOST_BYTES = PAGE_BYTES + 2 * SLOT_BYTES /* of an input or an output */
@@ -28,6 +28,8 @@ Outcome hold_rename(const Bytes *page, const Bytes *log, uint16_t node, uint32_t
 Outcome hold_take_back(const Bytes *page, const Bytes *log, uint16_t node, uint32_t sequence, size_t room);
 Outcome hold_next_step(const Bytes *table, size_t current, uint8_t *step, uint32_t *index);
 Outcome hold_add_epoch(const Bytes *table, size_t parent, uint16_t node, uint32_t sequence, size_t room);
+Outcome hold_write_message(const Numbers *numbers, const Bytes *names, size_t room);
+Outcome hold_read_message(const Bytes *message, Numbers *numbers, size_t room);
 
 /* The first bytes of the output of the last call, as the library left them. */
 void take_output(Bytes *taken, size_t length);

@@ -12,6 +12,8 @@ void take_back_case(void);
 void table_case(void);
 void step_case(void);
 void add_case(void);
+void write_case(void);
+void read_case(void);
 
 /* The same with a page, a log or both of up to 256 slots. */
 void long_check_case(void);
@@ -19,8 +21,9 @@ void long_edit_case(void);
 void long_rename_case(void);
 
 /* Many calls, each with what the library gave before: edits, a rename, edits, the taking back; a table that grows, walked to
- * its target each time. */
+ * its target each time; a message written, read, written again, damaged and read. */
 void book_chain(void);
 void epoch_chain(void);
+void message_chain(void);
 
 #endif
