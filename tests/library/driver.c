@@ -1,7 +1,7 @@
 /*
  * driver SEED CASES LEAST: holds the library to the plain C of tests/reference on at least so many random cases, the same
- * for the same seed, and prints how often each answer of each call was met. Fails if a case differs, or if an answer was met
- * fewer than LEAST times.
+ * for the same seed, and prints what was met. Fails if a case differs, or if an answer that 01 has for a call, or a way in
+ * which it renames a name or takes it back, was met fewer than LEAST times.
  */
 #include <stdio.h>
 #include <stdlib.h>

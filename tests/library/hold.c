@@ -253,6 +253,45 @@ Outcome hold_new_name(const Bytes *page, size_t gap, uint16_t node, uint32_t seq
     return hold(is, must);
 }
 
+/* How often a name was renamed or taken back in each way, of those that 01 has: the rows of the table of "Renaming one name",
+ * and the bullets of "Taking it back" with their cases. */
+enum { WAYS = 6 + 12 };
+
+static struct {
+    const char *words;
+    size_t times;
+} ways[WAYS];
+
+static void count_way(const char *words)
+{
+    size_t i = 0;
+    while (i < WAYS && ways[i].words != NULL && strcmp(ways[i].words, words) != 0)
+        i++;
+    if (i == WAYS) {
+        printf("a way that 01 does not have: %s\n", words);
+        exit(EXIT_FAILURE);
+    }
+    ways[i].words = words;
+    ways[i].times++;
+}
+
+/* Of an accepted call. A long page is left out: it has no way of its own. */
+static void count_ways(const Bytes *page, const Bytes *log, uint16_t node, uint32_t sequence,
+                       Renamed (*change)(const Renaming *renaming, const Name *name))
+{
+    enum { MOST_SLOTS = 16 };
+    static Page slots;
+    static Renaming renaming;
+    if (page->length > MOST_SLOTS * SLOT_BYTES)
+        return;
+    read_page(page->bytes, page->length, &slots);
+    read_page(log->bytes, log->length, &renaming.log);
+    renaming.node = node;
+    renaming.sequence = sequence;
+    for (size_t i = 0; i < slots.count; i++)
+        count_way(change(&renaming, &slots.slots[i].name).by);
+}
+
 Outcome hold_rename(const Bytes *page, const Bytes *log, uint16_t node, uint32_t sequence, size_t room)
 {
     begin(RENAME_PAGE, page, log, room);
@@ -260,6 +299,8 @@ Outcome hold_rename(const Bytes *page, const Bytes *log, uint16_t node, uint32_t
                                     output.bytes, room);
     Outcome must = rename_page(page->bytes, page->length, log->bytes, log->length, node, sequence, must_bytes + FRONT,
                                room);
+    if (must.answer == ACCEPTED)
+        count_ways(page, log, node, sequence, rename_name);
     return hold(is, must);
 }
 
@@ -270,6 +311,8 @@ Outcome hold_take_back(const Bytes *page, const Bytes *log, uint16_t node, uint3
                                        output.bytes, room);
     Outcome must = take_page_back(page->bytes, page->length, log->bytes, log->length, node, sequence,
                                   must_bytes + FRONT, room);
+    if (must.answer == ACCEPTED)
+        count_ways(page, log, node, sequence, take_name_back);
     return hold(is, must);
 }
 
@@ -336,13 +379,26 @@ static bool tell_call(Call of, size_t least)
     return enough;
 }
 
+static bool tell_ways(size_t least)
+{
+    bool enough = true;
+    printf("how often a name was renamed or taken back in each way:\n");
+    for (size_t i = 0; i < WAYS; i++) {
+        printf("  %s: %zu%s\n", ways[i].words != NULL ? ways[i].words : "none", ways[i].times,
+               ways[i].times < least ? " TOO FEW" : "");
+        enough = enough && ways[i].times >= least;
+    }
+    return enough;
+}
+
 bool tell_what_was_met(size_t least)
 {
     bool enough = true;
     printf("%zu cases, %zu differences; how often each answer was met:\n", held, differences);
     for (int of = 0; of < CALLS; of++)
         enough = tell_call((Call)of, least) && enough;
+    enough = tell_ways(least) && enough;
     if (!enough)
-        printf("an answer was met fewer than %zu times\n", least);
+        printf("an answer or a way was met fewer than %zu times\n", least);
     return enough && differences == 0;
 }

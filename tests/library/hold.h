@@ -37,8 +37,8 @@ void take_output(Bytes *taken, size_t length);
 /* How many cases were held. */
 size_t cases_held(void);
 
-/* Prints how often each answer of each call was met. Whether no case differed, and each answer that 01 has for a call was met
- * at least so often. */
+/* Prints how often each answer of each call was met, and each way in which a name is renamed or taken back. Whether no case
+ * differed, and each of those that 01 has was met at least so often. */
 bool tell_what_was_met(size_t least);
 
 #endif
