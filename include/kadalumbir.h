@@ -23,7 +23,7 @@
  * than one refusal applies, the first in the order beside the function is given.
  *
  * Stack. The number beside each function is what the call and all that it calls put on the stack, in bytes: read off the
- * frames of the archive for x86-64 and rounded up, without memset's own. Other machines are near it.
+ * frames of the archive for x86-64 and rounded up, without the call's arguments and memset's own. Other machines are near.
  *
  * Bytes. All numbers are big-endian.
  *   tuple   12 bytes: position u16, node u16, sequence u32, offset i32 in two's complement. An ordinary tuple has
@@ -95,10 +95,10 @@ static inline uint32_t kadalumbir_count_of(uint64_t result)
 
 /* ---- checks: the count is that of the slots or entries that stand there; nothing is written */
 
-/* Refuses 1, 2. Stack: 700 bytes. */
+/* Refuses 1, 2. Stack: 800 bytes. */
 uint64_t kadalumbir_check_page(const uint8_t *page, size_t page_len);
 
-/* Refuses 3. Stack: 700 bytes. */
+/* Refuses 3. Stack: 800 bytes. */
 uint64_t kadalumbir_check_log(const uint8_t *log, size_t log_len);
 
 /* Refuses 13. Stack: 100 bytes. */
@@ -107,19 +107,19 @@ uint64_t kadalumbir_check_epochs(const uint8_t *table, size_t table_len);
 /* ---- lines: the count is that of the page's slots in `out` */
 
 /* Writes the page with the given slot, which is exactly one slot long, at its rising place.
- * Refuses 1 (page), 1 (slot), 2, 9, 11, 8. Stack: 800 bytes. */
+ * Refuses 1 (page), 1 (slot), 2, 9, 11, 8. Stack: 900 bytes. */
 uint64_t kadalumbir_insert(const uint8_t *page, size_t page_len, const uint8_t *slot, size_t slot_len, uint8_t *out,
                            size_t out_len);
 
 /* Writes the page without the slot that has the given slot's name; the given line number is ignored.
- * Refuses 1 (page), 1 (slot), 2, 10, 8. Stack: 800 bytes. */
+ * Refuses 1 (page), 1 (slot), 2, 10, 8. Stack: 900 bytes. */
 uint64_t kadalumbir_remove(const uint8_t *page, size_t page_len, const uint8_t *slot, size_t slot_len, uint8_t *out,
                            size_t out_len);
 
 /* Writes one slot with line number 0 and a new name for the gap before slot `gap`, or after the last where `gap` is the
  * number of slots. The author's (node, sequence) is taken as given: that it was never used before, which keeps two
  * units' names apart, is the caller's affair. The count is 0, though a slot is written.
- * Refuses 1, 2, 4, 16, 12, 6, 8. Stack: 1200 bytes. */
+ * Refuses 1, 2, 4, 16, 12, 6, 8. Stack: 1400 bytes. */
 uint64_t kadalumbir_new_name(const uint8_t *page, size_t page_len, size_t gap, uint16_t node, uint32_t sequence,
                              uint8_t *out, size_t out_len);
 
@@ -127,12 +127,12 @@ uint64_t kadalumbir_new_name(const uint8_t *page, size_t page_len, size_t gap, u
 
 /* Writes the page as the rename of the log by the author (node, sequence) makes it: the log's k-th name becomes one
  * tuple with offset k, and other names change so that the order stays. A name gains at most one tuple.
- * Refuses 1, 2, 3, 4, 5, 6, 8. Stack: 1500 bytes. */
+ * Refuses 1, 2, 3, 4, 5, 6, 8. Stack: 1700 bytes. */
 uint64_t kadalumbir_rename(const uint8_t *page, size_t page_len, const uint8_t *log, size_t log_len, uint16_t node,
                            uint32_t sequence, uint8_t *out, size_t out_len);
 
 /* Writes the page, which has names of after that rename, with the names of before it.
- * Refuses 1, 2, 3, 4, 6, 7, 8. Stack: 2700 bytes. */
+ * Refuses 1, 2, 3, 4, 6, 7, 8. Stack: 2800 bytes. */
 uint64_t kadalumbir_take_back(const uint8_t *page, size_t page_len, const uint8_t *log, size_t log_len, uint16_t node,
                               uint32_t sequence, uint8_t *out, size_t out_len);
 

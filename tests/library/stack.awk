@@ -1,6 +1,7 @@
 # awk -f stack.awk kadalumbir.h FRAMES: holds the stack that the header says for each call to the frames of the archive, of
-# which FRAMES is what objdump -dr writes: what a function pushes and subtracts, its return address, and the most of what it
-# calls. Prints the bytes of each call; fails where the header says fewer, or none.
+# which FRAMES is what objdump -dr writes: what a function pushes and subtracts, what it uses below that (as one that calls
+# nothing may), its return address, and the most of what it calls. Prints the bytes of each call; fails where the header says
+# fewer, or none.
 BEGIN {
     # How often a function stands on the stack that calls itself: docs/PROMISES.md, epochs.
     times["epochs::compare_epochs"] = 62
@@ -21,7 +22,7 @@ function deepest(name, most, i, bytes) {
         if (bytes > most) most = bytes
     }
     if (name in itself && !(name in times)) fault(name " calls itself, and how often is not known")
-    return most + frame[name] * (name in itself ? times[name] : 1)
+    return most + (frame[name] + under[name]) * (name in itself ? times[name] : 1)
 }
 
 function add_call(name) {
@@ -49,6 +50,10 @@ NR == FNR {
     sub(/.*\$0x/, "", bytes)
     sub(/,%rsp$/, "", bytes)
     frame[here] += hexadecimal(bytes)
+}
+match($0, /-0x[0-9a-f]+\(%rsp/) {
+    bytes = hexadecimal(substr($0, RSTART + 3, RLENGTH - 8))
+    if (bytes > under[here]) under[here] = bytes
 }
 /\t(sub|and|lea) .*,%rsp$/ && !/\tsub +\$0x/ { fault(here " moves the stack in a way that is not known:" $0) }
 /\tcall +[0-9a-f]+ <[^+]*>$/ {
