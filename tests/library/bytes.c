@@ -22,6 +22,12 @@ size_t slots_of(const Bytes *bytes)
     return bytes->length / SLOT_BYTES;
 }
 
+void copy_bytes(const Bytes *from, Bytes *to)
+{
+    to->length = from->length;
+    memcpy(to->bytes, from->bytes, from->length);
+}
+
 void copy_slot(const Bytes *page, size_t at, Bytes *slot)
 {
     slot->length = SLOT_BYTES;
@@ -44,10 +50,11 @@ void make_log(Bytes *log, const Names *names)
 
 void make_long_page(Bytes *bytes, size_t slots, bool log)
 {
+    size_t deeper = once_in(4) ? 1 : 8;
     bytes->length = 0;
     for (size_t i = 0; i < slots; i++) {
         Name name = long_logged_name(i);
-        if (once_in(8))
+        if (once_in(deeper))
             name = deepened(name);
         add_slot(bytes, log ? 0 : random_line(), &name);
     }
@@ -62,8 +69,7 @@ size_t long_count(void)
 
 void log_of(const Bytes *page, Bytes *log)
 {
-    log->length = page->length;
-    memcpy(log->bytes, page->bytes, page->length);
+    copy_bytes(page, log);
     for (size_t at = 0; at < log->length; at += SLOT_BYTES)
         memset(log->bytes + at + 4, 0, 4);
 }

@@ -11,6 +11,8 @@ uint32_t random_line(void);
 void add_slot(Bytes *bytes, uint32_t line, const Name *name);
 size_t slots_of(const Bytes *bytes);
 
+void copy_bytes(const Bytes *from, Bytes *to);
+
 /* A slot of a page, alone. */
 void copy_slot(const Bytes *page, size_t at, Bytes *slot);
 
@@ -18,7 +20,7 @@ void copy_slot(const Bytes *page, size_t at, Bytes *slot);
 void make_page(Bytes *page, const Names *names);
 void make_log(Bytes *log, const Names *names);
 
-/* So many slots with the names of a long log, some of them deeper; mostly 256 or next to it. */
+/* So many slots with the names of a long log, some or all of them deeper; mostly 256 or next to it. */
 void make_long_page(Bytes *bytes, size_t slots, bool log);
 size_t long_count(void);
 

@@ -1,6 +1,4 @@
 /* Chains of calls on one book. */
-#include <string.h>
-
 #include "../cases/book_parts.h"
 #include "bytes.h"
 #include "sorts.h"
@@ -37,6 +35,15 @@ static size_t chain_room(size_t bytes)
     return once_in(20) ? room_for(bytes) : bytes;
 }
 
+/* Goes on with the page that an accepted call wrote. */
+static bool go_on(Outcome outcome)
+{
+    if (outcome.answer != ACCEPTED)
+        return false;
+    take_output(&page, outcome.count * SLOT_BYTES);
+    return true;
+}
+
 static void insert_new_line(void)
 {
     size_t gap = choose_gap();
@@ -44,9 +51,7 @@ static void insert_new_line(void)
         return;
     take_output(&slot, SLOT_BYTES);
     slot.bytes[7] = (uint8_t)next_sequence;
-    Outcome outcome = hold_insert(&page, &slot, chain_room(page.length + SLOT_BYTES));
-    if (outcome.answer == ACCEPTED)
-        take_output(&page, outcome.count * SLOT_BYTES);
+    go_on(hold_insert(&page, &slot, chain_room(page.length + SLOT_BYTES)));
 }
 
 static void remove_line(void)
@@ -54,9 +59,7 @@ static void remove_line(void)
     if (slots_of(&page) == 0)
         return;
     copy_slot(&page, random_below(slots_of(&page)), &slot);
-    Outcome outcome = hold_remove(&page, &slot, chain_room(page.length - SLOT_BYTES));
-    if (outcome.answer == ACCEPTED)
-        take_output(&page, outcome.count * SLOT_BYTES);
+    go_on(hold_remove(&page, &slot, chain_room(page.length - SLOT_BYTES)));
 }
 
 /* A line of the last rename's parent epoch, which another unit sent before it heard of the rename. */
@@ -71,16 +74,13 @@ static void insert_late_line(void)
     if (hold_rename(&slot, log, renames[renamed - 1].node, renames[renamed - 1].sequence, SLOT_BYTES).answer != ACCEPTED)
         return;
     take_output(&slot, SLOT_BYTES);
-    Outcome outcome = hold_insert(&page, &slot, page.length + SLOT_BYTES);
-    if (outcome.answer == ACCEPTED)
-        take_output(&page, outcome.count * SLOT_BYTES);
+    go_on(hold_insert(&page, &slot, page.length + SLOT_BYTES));
 }
 
 /* The page with something wrong, from which the chain does not go on. */
 static void try_spoilt(void)
 {
-    spoilt.length = page.length;
-    memcpy(spoilt.bytes, page.bytes, page.length);
+    copy_bytes(&page, &spoilt);
     damage_bytes(&spoilt, SLOT_BYTES);
     switch (random_below(3)) {
     case 0: hold_check_page(&spoilt); break;
@@ -107,7 +107,7 @@ static void edit(size_t times)
     }
 }
 
-/* Renames the whole book, or a part of it: the log of a unit that has not seen all lines yet, or of one that has more. */
+/* Renames the book; now and then the log has names of lines that were removed since. */
 static void rename_book(void)
 {
     if (renamed == RENAMES || page.length == 0)
@@ -118,10 +118,8 @@ static void rename_book(void)
         remove_line();
     uint16_t node = (uint16_t)(1 + random_below(3));
     uint32_t sequence = once_in(10) ? random_below(2) : next_sequence++;
-    Outcome outcome = hold_rename(&page, log, node, sequence, chain_room(page.length));
-    if (outcome.answer != ACCEPTED)
+    if (!go_on(hold_rename(&page, log, node, sequence, chain_room(page.length))))
         return;
-    take_output(&page, outcome.count * SLOT_BYTES);
     renames[renamed].node = node;
     renames[renamed].sequence = sequence;
     renamed++;
@@ -132,10 +130,8 @@ static void take_book_back(void)
     if (renamed == 0)
         return;
     renamed--;
-    Outcome outcome = hold_take_back(&page, &renames[renamed].log, renames[renamed].node, renames[renamed].sequence,
-                                     chain_room(page.length));
-    if (outcome.answer == ACCEPTED)
-        take_output(&page, outcome.count * SLOT_BYTES);
+    go_on(hold_take_back(&page, &renames[renamed].log, renames[renamed].node, renames[renamed].sequence,
+                         chain_room(page.length)));
 }
 
 void book_chain(void)

@@ -35,7 +35,7 @@ void read_case(void)
 
 /* ---- chains */
 
-/* The parts of a message that is accepted, or of a rename with 257 names: mostly short, now and then as long as it can be. */
+/* The parts of a message that is mostly accepted; now and then of a rename with 256 names, or with one too many. */
 static Numbers make_parts(void)
 {
     MessageParts parts;
@@ -63,8 +63,7 @@ static void add_name_field(void)
 static void read_damaged(void)
 {
     Numbers numbers;
-    again.length = message.length;
-    memcpy(again.bytes, message.bytes, message.length);
+    copy_bytes(&message, &again);
     damage_bytes(&again, FIELD_HEAD_BYTES + TUPLE_BYTES);
     hold_read_message(&again, &numbers, PAGE_BYTES);
 }
