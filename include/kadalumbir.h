@@ -158,14 +158,14 @@ enum { KADALUMBIR_INSERT = 1, KADALUMBIR_REMOVE = 2, KADALUMBIR_RENAME = 3 };
 /* Writes the message of these parts; the names are slots with line number 0. The count is that of its bytes.
  * Refuses 15 (any parts that reading cannot give: a bad kind, epoch, author or name, a wrong number of names, names of a
  * rename not rising, a slot's line number other than 0, a line number other than 0 where the kind is not insert), 8.
- * Stack: 1000 bytes, counted from the code. */
+ * Stack: 1000 bytes. */
 uint64_t kadalumbir_write_message(uint8_t kind, uint16_t epoch_node, uint32_t epoch_sequence, uint16_t author_node,
                                   uint32_t author_sequence, uint32_t line, const uint8_t *names, size_t names_len,
                                   uint8_t *out, size_t out_len);
 
 /* Sets kind, epoch, author and line number (0 unless insert), and writes the names, in slots with line number 0. The count
  * is that of the slots. A message has one writing, so that writing what was read gives the same bytes.
- * Refuses 15, 8. Stack: 1000 bytes, counted from the code. */
+ * Refuses 15, 8. Stack: 1000 bytes. */
 uint64_t kadalumbir_read_message(const uint8_t *message, size_t message_len, uint8_t *kind, uint16_t *epoch_node,
                                  uint32_t *epoch_sequence, uint16_t *author_node, uint32_t *author_sequence,
                                  uint32_t *line, uint8_t *out, size_t out_len);
