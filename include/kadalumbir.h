@@ -18,12 +18,13 @@
  * not be null.
  *
  * Results. A call gives answer * 2^32 + count; kadalumbir_answer_of and kadalumbir_count_of take them out. An accepted
- * call has answer 0, writes what its count says from the start of `out`, and leaves the bytes after that as they were.
+ * call has answer 0, writes what its count says (a new name: one slot) from the start of `out`, and leaves the bytes after
+ * that as they were.
  * A refused call has count 0, leaves all of `out` as it was, and sets the single numbers that it gives to 0. Where more
  * than one refusal applies, the first in the order beside the function is given.
  *
  * Stack. The number beside each function is what the call and all that it calls put on the stack, in bytes: read off the
- * frames of the archive for x86-64 and rounded up, without the call's arguments and memset's own. Other machines are near.
+ * frames of the archive for x86-64 and rounded up, without the call's arguments and memset's own.
  *
  * Bytes. All numbers are big-endian.
  *   tuple   12 bytes: position u16, node u16, sequence u32, offset i32 in two's complement. An ordinary tuple has
