@@ -1,4 +1,4 @@
-.PHONY: run test cost install clean
+.PHONY: run test cost bench install clean
 
 PREFIX = /usr/local
 
@@ -13,6 +13,10 @@ test:
 # What the check of each crate costs.
 cost:
 	@tests/cost
+
+# What each call of the library costs, against plain C and a bare copy.
+bench:
+	@bench/run
 
 # The header, the archive and a pkg-config file, to PREFIX under DESTDIR.
 install:

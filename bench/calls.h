@@ -1,0 +1,50 @@
+/* The calls of the header with arguments of one form, so that they can be timed alike: the library's and the plain C's. */
+#ifndef BENCH_CALLS_H
+#define BENCH_CALLS_H
+
+#include "../tests/reference/messages.h"
+
+typedef enum {
+    CHECK_PAGE,
+    CHECK_LOG,
+    INSERT_SLOT,
+    REMOVE_SLOT,
+    NEW_NAME,
+    RENAME_PAGE,
+    TAKE_BACK,
+    WRITE_MESSAGE,
+    READ_MESSAGE,
+    CHECK_EPOCHS,
+    NEXT_STEP,
+    ADD_EPOCH,
+    OPERATIONS
+} Operation;
+
+/* Who renames, makes names and adds epochs, everywhere. No name and no epoch of an input is this author's. */
+enum { AUTHOR_NODE = 9, AUTHOR_SEQUENCE = 1 };
+
+typedef struct {
+    size_t length;
+    uint8_t bytes[PAGE_BYTES];
+} Part;
+
+typedef struct {
+    Part first;   /* the page, log, table, message or names */
+    Part second;  /* the slot or the log, where a call takes one beside the page */
+    size_t index; /* the gap, the current epoch or the parent */
+} Input;
+
+/* There is room for a copy of both parts of an input. */
+typedef struct {
+    uint8_t bytes[2 * PAGE_BYTES];
+    Numbers numbers;
+    uint8_t step;
+    uint32_t index;
+} Output;
+
+/* Gives what the call of the header gives. */
+typedef uint64_t (*Call)(const Input *input, Output *output);
+
+extern const Call library_calls[OPERATIONS], plain_calls[OPERATIONS];
+
+#endif

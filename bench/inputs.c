@@ -1,0 +1,139 @@
+#include "inputs.h"
+
+#include <string.h>
+
+#include "../include/kadalumbir.h"
+#include "../tests/reference/epochs.h"
+
+enum {
+    SHARED = 4,      /* the tuples that begin every deep name */
+    OTHER_NODE = 2,  /* of every name */
+    FIRST_NODE = 100 /* of the epochs */
+};
+
+/* A name with this place among all names, up to so deep. */
+static Slot slot_at(size_t place, uint32_t line, Shape shape, size_t deepest)
+{
+    Slot slot = {line, {1, {{0, 0, 0, 0}}}};
+    size_t placed = 0;
+    if (shape == DEEP) {
+        slot.name.depth = deepest - place / 2 % (deepest - SHARED);
+        placed = SHARED;
+    }
+    for (size_t i = 0; i < slot.name.depth; i++) {
+        Tuple t = {(uint16_t)(i == placed ? 1 + 100 * place : 1000 + i), OTHER_NODE, (uint32_t)i, 0};
+        slot.name.tuples[i] = t;
+    }
+    return slot;
+}
+
+static void add_slot(Part *part, const Slot *slot)
+{
+    write_slot(part->bytes + part->length, slot);
+    part->length += SLOT_BYTES;
+}
+
+/* Names at every other place, with line numbers. */
+static void make_page(size_t lines, Shape shape, size_t deepest, Part *page)
+{
+    page->length = 0;
+    for (size_t i = 0; i < lines; i++) {
+        Slot slot = slot_at(2 * i, (uint32_t)i + 1, shape, deepest);
+        add_slot(page, &slot);
+    }
+}
+
+/* Of each two lines of such a page, the first one's name, and one above the second's. */
+static void make_log(size_t lines, Shape shape, size_t deepest, Part *log)
+{
+    log->length = 0;
+    for (size_t i = 0; i < lines; i++) {
+        Slot slot = slot_at(i % 2 == 0 ? 2 * i : 2 * i + 1, 0, shape, deepest);
+        add_slot(log, &slot);
+    }
+}
+
+static void copy_slot(const Part *page, size_t i, Part *slot)
+{
+    slot->length = SLOT_BYTES;
+    memcpy(slot->bytes, page->bytes + i * SLOT_BYTES, SLOT_BYTES);
+}
+
+static void cut_slot(Part *page, size_t i)
+{
+    uint8_t *at = page->bytes + i * SLOT_BYTES;
+    page->length -= SLOT_BYTES;
+    memmove(at, at + SLOT_BYTES, page->length - i * SLOT_BYTES);
+}
+
+/* Calls the plain C on an input, whose first part then becomes what that gave, in pieces of so many bytes. */
+static void become_result(Operation operation, size_t piece, Input *input)
+{
+    static Output output;
+    input->first.length = kadalumbir_count_of(plain_calls[operation](input, &output)) * piece;
+    memcpy(input->first.bytes, output.bytes, input->first.length);
+}
+
+static void make_table(size_t entries, Shape shape, Part *table)
+{
+    table->length = entries * ENTRY_BYTES;
+    memset(table->bytes, 0, ENTRY_BYTES);
+    for (size_t i = 1; i < entries; i++) {
+        Entry entry = {(uint16_t)(FIRST_NODE + i), 1, (uint16_t)(shape == CHAIN ? i - 1 : 0)};
+        write_entry(table->bytes + i * ENTRY_BYTES, entry);
+    }
+}
+
+void make_input(Operation operation, Shape shape, size_t size, Input *input)
+{
+    /* A rename may add a tuple. */
+    bool renames = operation == RENAME_PAGE || operation == TAKE_BACK;
+    size_t deepest = renames ? DEPTH_LIMIT - 1 : DEPTH_LIMIT, middle = size / 2;
+    Part *first = &input->first, *second = &input->second;
+
+    second->length = 0;
+    input->index = 0;
+    switch (operation) {
+    case CHECK_PAGE:
+        make_page(size, shape, deepest, first);
+        break;
+    case NEW_NAME:
+        make_page(size, shape, deepest, first);
+        input->index = middle;
+        break;
+    case INSERT_SLOT:
+    case REMOVE_SLOT:
+        make_page(size, shape, deepest, first);
+        copy_slot(first, middle, second);
+        if (operation == INSERT_SLOT)
+            cut_slot(first, middle);
+        break;
+    case RENAME_PAGE:
+    case TAKE_BACK:
+        make_page(size, shape, deepest, first);
+        make_log(size, shape, deepest, second);
+        if (operation == TAKE_BACK)
+            become_result(RENAME_PAGE, SLOT_BYTES, input);
+        break;
+    case CHECK_LOG:
+    case WRITE_MESSAGE:
+    case READ_MESSAGE:
+        make_log(size, shape, deepest, first);
+        if (operation == READ_MESSAGE)
+            become_result(WRITE_MESSAGE, 1, input);
+        break;
+    case CHECK_EPOCHS:
+        make_table(size, shape, first);
+        break;
+    case NEXT_STEP:
+        /* From the second entry the step is up in a star and down in a chain. */
+        make_table(size, shape, first);
+        input->index = 1;
+        break;
+    case ADD_EPOCH:
+        make_table(size - 1, shape, first);
+        break;
+    case OPERATIONS:
+        break;
+    }
+}
