@@ -2,7 +2,7 @@
 
 PREFIX = /usr/local
 
-# Proves the crates and lists the sample book.
+# Proves the crates, lists the sample book and runs the crew of three.
 run:
 	@scripts/run
 
