@@ -632,7 +632,7 @@ static void run_crew(void)
 /* ---- which gain applies */
 
 /* The text of a line is kept beside the book, by line number: its gain, or 0 for a reading. */
-enum { LAST_LINE = 7 };
+enum { LAST_LINE = 7, LAST_LOGGED = 5, ADDED_LINE = 7 }; /* added when the rename has come */
 static const int gains[LAST_LINE + 1] = {0, 4, 0, 0, 10, 0, 0, 0};
 
 /* The slot of a line, or the number of slots where the book does not have it. */
@@ -691,13 +691,23 @@ static int same_gain(const Page *a, const Page *b, uint32_t line)
     return gain_at(a, place_of(a, line)) == gain_at(b, place_of(b, line));
 }
 
+static int same_slot(const Page *a, const Page *b, uint32_t line)
+{
+    return memcmp(slot_at(a, place_of(a, line)), slot_at(b, place_of(b, line)), KADALUMBIR_SLOT_BYTES) == 0;
+}
+
 static void hold_gains(const Page *before, const Page *renamed, const Page *back)
 {
-    for (uint32_t line = 1; line <= LAST_LINE; line++) {
-        int added = place_of(before, line) == slots_of(before);
-        if ((!added && !same_gain(before, renamed, line)) || !same_gain(renamed, back, line))
+    for (uint32_t line = 1; line <= LAST_LINE; line++)
+        if ((line != ADDED_LINE && !same_gain(before, renamed, line)) || !same_gain(renamed, back, line))
             failed("another gain applies to a reading");
-    }
+}
+
+static void hold_names(const Page *before, const Page *back)
+{
+    for (uint32_t line = 1; line <= LAST_LINE; line++)
+        if (line != ADDED_LINE && !same_slot(before, back, line))
+            failed("a line does not get its name back");
 }
 
 static void print_gains(const Page *before, const Page *renamed, const Page *back)
@@ -714,19 +724,20 @@ static void run_gains(void)
 {
     static Page before, renamed, back, log;
     static const Pair author = {2, 1};
-    for (uint32_t line = 1; line <= 5; line++)
+    for (uint32_t line = 1; line <= LAST_LOGGED; line++)
         add_line(&before, slots_of(&before), line);
     copy_names(before.bytes, slots_of(&before), &log);
     add_line(&before, slots_of(&before), 6);
     renamed = before;
     rename_page(&renamed, &log, author);
-    add_line(&renamed, place_of(&renamed, 5) + 1, 7);
+    add_line(&renamed, place_of(&renamed, LAST_LOGGED) + 1, ADDED_LINE);
     back = renamed;
     take_page_back(&back, &log, author);
 
     print_gains(&before, &renamed, &back);
     hold_gains(&before, &renamed, &back);
-    puts("\nThe gain that applies to each reading is the same throughout.");
+    hold_names(&before, &back);
+    puts("\nThe gain that applies to each reading is the same throughout, and lines 1 to 6 have their names again.");
 }
 
 int main(void)
