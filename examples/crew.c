@@ -113,7 +113,8 @@ static void failed(const char *what)
     exit(1);
 }
 
-/* The count of a call. In this run none is refused, but for a remove. */
+/* The count of a call. This run ends at a refusal, and meets none. With other numbers from chance it can meet 6, 7 and 12,
+ * which a logger in the field must be ready for: a gap without a new name, and a rename that cannot be followed. */
 static uint32_t accepted(uint64_t result, const char *call)
 {
     if (kadalumbir_answer_of(result) != KADALUMBIR_ACCEPTED) {
