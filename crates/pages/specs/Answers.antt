@@ -1,6 +1,6 @@
 -- What comes back from a call, and what it leaves in its output: document 01, "What comes back" and "Taking it back".
 use Prim.Native.Nat.{ℕ}
-use mathlib.Core.List.{List, [], flatten}
+use mathlib.Core.List.{List, [], _∷_, flatten}
 use mathlib.Core.Bool.{Bool, true, false}
 use lib.ListN.{length}
 use lib.Dec.{leb}
@@ -40,10 +40,30 @@ abbrev pub countOf : Answer → ℕ
 countOf (Accepted n) = n
 countOf (Refused r) = 0
 
--- "Order": a row of tests, the first that fails gives the answer
+-- ── "Order" ──
+
+-- next where the test passes, else the refusal
 abbrev pub ask : {A : Type 0} → Bool → A → A → A
 ask true refusal next = next
 ask false refusal next = refusal
+
+-- one of a call's refusals: what must hold, and what is answered where it does not
+pub record Test : Type 0 where
+  pub passes : Bool
+  pub refusal : Refusal
+
+infix 70 _else_
+abbrev pub _else_ : Bool → Refusal → Test
+b else r = record { passes = b; refusal = r }
+
+-- 01 gives each call its refusals in their order: the first test that fails gives the answer, and where all pass the call goes on
+abbrev pub inOrder : {A : Type 0} → List Test → (Refusal → A) → A → A
+inOrder [] refusing next = next
+inOrder (t ∷ tests) refusing next = ask (t .passes) (refusing (t .refusal)) (inOrder tests refusing next)
+
+-- what a check answers that writes nothing: the first refusal, or so many
+abbrev pub check : List Test → ℕ → Answer
+check tests n = inOrder tests Refused (Accepted n)
 
 -- what a call that writes answers, and the bytes that it writes
 pub record Outcome : Type 0 where
@@ -61,6 +81,10 @@ accept pieces = record { answer = Accepted (length pieces); bytes = flatten piec
 -- "8: output shorter than the result", which is the last refusal of every call that writes
 abbrev pub write : List Bytes → ℕ → Outcome
 write pieces room = ask (leb (length (flatten pieces)) room) (refuse Short) (accept pieces)
+
+-- A call that writes: its other refusals in their order, then 8
+abbrev pub outcome : List Test → List Bytes → ℕ → Outcome
+outcome tests pieces room = inOrder tests refuse (write pieces room)
 
 -- "Every accepted call writes what its count says, from the start of its output, and nothing after that." The output held o.
 abbrev pub leaves : Outcome → Bytes → Bytes

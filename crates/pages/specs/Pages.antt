@@ -7,9 +7,8 @@ use lib.Dec.{eqb, leb}
 use Rattle.names.specs.Ordering.{Row, rising}
 use Rattle.slots.specs.Bytes.{Bytes, every, isZero}
 use Rattle.slots.specs.Slots.{Slot, slotSize, slotOf, keepsSlot, slotBytes}
-use Rattle.pages.specs.Answers.{ask}
+use Rattle.pages.specs.Answers.{_else_, check}
 use Rattle.pages.specs.declared.Answer.{Answer}
-use Rattle.pages.specs.declared.Answer.the-variants.{Accepted, Refused}
 use Rattle.pages.specs.declared.Refusal.the-variants.{BadLayout, NotRising, BadLog}
 
 -- "A page is 0..256 slots"
@@ -60,12 +59,12 @@ isLog s = keepsLayout s && rises s && leb 1 (length (slotsOf s)) && every lineIs
 
 -- "1: a page (its order apart) or given slot breaks its layout; 2: page names not strictly rising"
 unfoldable pub checkPage : Bytes → Answer
-checkPage s = ask (keepsLayout s) (Refused BadLayout) (ask (rises s) (Refused NotRising) (Accepted (length (slotsOf s))))
+checkPage s = check (keepsLayout s else BadLayout ∷ rises s else NotRising ∷ []) (length (slotsOf s))
 
 -- "3: log breaks its layout, is empty, not rising, or has a line number other than 0"
 unfoldable pub checkLog : Bytes → Answer
-checkLog s = ask (isLog s) (Refused BadLog) (Accepted (length (slotsOf s)))
+checkLog s = check (isLog s else BadLog ∷ []) (length (slotsOf s))
 
 -- a slot that is given by itself
 unfoldable pub checkSlot : Bytes → Answer
-checkSlot s = ask (keepsSlot s) (Refused BadLayout) (Accepted 1)
+checkSlot s = check (keepsSlot s else BadLayout ∷ []) 1
