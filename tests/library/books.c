@@ -1,5 +1,5 @@
 /* Cases of one call on a book. */
-#include "../cases/book_parts.h"
+#include "book_parts.h"
 #include "bytes.h"
 #include "sorts.h"
 
@@ -23,6 +23,19 @@ void check_case(void)
         make_log(&page, &names);
     maybe_damage_bytes(4, &page, SLOT_BYTES);
     hold_checks();
+}
+
+/* A slot alone: the check of it is its insertion into an empty page. */
+void slot_case(void)
+{
+    choose_numbers();
+    Name name = maybe_broken_name();
+    slot.length = 0;
+    add_slot(&slot, random_line(), &name);
+    if (once_in(2))
+        spoil_slot(&slot);
+    page.length = 0;
+    hold_insert(&page, &slot, SLOT_BYTES);
 }
 
 /* ---- edits */

@@ -2,7 +2,7 @@
 
 #include <string.h>
 
-#include "../cases/book_parts.h"
+#include "book_parts.h"
 
 uint32_t random_line(void)
 {
@@ -48,6 +48,15 @@ void make_log(Bytes *log, const Names *names)
         add_slot(log, 0, &names->names[i]);
 }
 
+void fill_slots(Bytes *bytes, size_t slots, Name name)
+{
+    bytes->length = 0;
+    for (size_t i = 0; i < slots; i++) {
+        name.tuples[0].sequence = (uint32_t)i;
+        add_slot(bytes, 0, &name);
+    }
+}
+
 void make_long_page(Bytes *bytes, size_t slots, bool log)
 {
     size_t deeper = once_in(4) ? 1 : 8;
@@ -74,12 +83,30 @@ void log_of(const Bytes *page, Bytes *log)
         memset(log->bytes + at + 4, 0, 4);
 }
 
+void cut_bytes(Bytes *bytes, size_t count)
+{
+    bytes->length -= count < bytes->length ? count : bytes->length;
+}
+
+static uint8_t random_byte(void)
+{
+    static const uint8_t values[] = {0, 1, 2, 8, 9, 127, 128, 255};
+    return values[random_below(LENGTH(values))];
+}
+
+void spoil_slot(Bytes *slots)
+{
+    if (slots_of(slots) == 0)
+        return;
+    size_t slot = random_below(slots_of(slots)) * SLOT_BYTES;
+    slots->bytes[slot + random_below(once_in(3) ? SLOT_BYTES : HEAD_BYTES)] = random_byte();
+}
+
 static void change_byte(Bytes *bytes)
 {
-    static const uint8_t values[] = {0, 1, 8, 9, 127, 128, 255};
     size_t at = random_below(bytes->length);
     if (once_in(2))
-        bytes->bytes[at] = values[random_below(LENGTH(values))];
+        bytes->bytes[at] = random_byte();
     else
         bytes->bytes[at] ^= (uint8_t)(1 << random_below(8));
 }
@@ -107,7 +134,7 @@ void damage_bytes(Bytes *bytes, size_t piece)
 {
     size_t several = once_in(2) ? 1 : random_below(2 * piece);
     switch (random_below(5)) {
-    case 0: bytes->length -= several < bytes->length ? several : bytes->length; break;
+    case 0: cut_bytes(bytes, several); break;
     case 1: add_bytes(bytes, several); break;
     case 2: swap_pieces(bytes, piece); break;
     default:
@@ -125,7 +152,15 @@ void maybe_damage_bytes(size_t times, Bytes *bytes, size_t piece)
 
 size_t room_for(size_t bytes)
 {
-    size_t room = random_room(bytes, PAGE_BYTES);
+    size_t room = bytes;
+    switch (random_below(8)) {
+    case 0: room = bytes > 0 ? bytes - 1 : 0; break;
+    case 1: room = random_below(bytes + 1); break;
+    case 2: room = bytes + 1; break;
+    case 3: room = PAGE_BYTES; break;
+    case 4: room = MOST_BYTES; break;
+    default: break;
+    }
     return room <= MOST_BYTES ? room : MOST_BYTES;
 }
 

@@ -2,8 +2,8 @@
 #ifndef TESTS_LIBRARY_BYTES_H
 #define TESTS_LIBRARY_BYTES_H
 
-#include "../cases/name_lines.h"
 #include "hold.h"
+#include "random_names.h"
 
 /* A line number, the edges among them. */
 uint32_t random_line(void);
@@ -20,6 +20,9 @@ void copy_slot(const Bytes *page, size_t at, Bytes *slot);
 void make_page(Bytes *page, const Names *names);
 void make_log(Bytes *log, const Names *names);
 
+/* So many slots of line 0 with this name, its first tuple with the sequences 0, 1, .. */
+void fill_slots(Bytes *bytes, size_t slots, Name name);
+
 /* So many slots with the names of a long log, some or all of them deeper; mostly 256 or next to it. */
 void make_long_page(Bytes *bytes, size_t slots, bool log);
 size_t long_count(void);
@@ -27,13 +30,19 @@ size_t long_count(void);
 /* The slots of a page with line number 0: the log of a rename that makes all of its names short. */
 void log_of(const Bytes *page, Bytes *log);
 
+/* The last bytes cut off, so many or all of fewer. */
+void cut_bytes(Bytes *bytes, size_t count);
+
+/* A byte of one slot changed, mostly one before its tuples. */
+void spoil_slot(Bytes *slots);
+
 /* A byte changed, a few bytes cut off or added, or two pieces of so many bytes swapped. Some changes are harmless. */
 void damage_bytes(Bytes *bytes, size_t piece);
 
 /* The same once in so many times. */
 void maybe_damage_bytes(size_t times, Bytes *bytes, size_t piece);
 
-/* Room for a result, as random_room says. */
+/* Room for a result: mostly enough, just enough or too little; or as much as a page, or as an output has. */
 size_t room_for(size_t bytes);
 
 /* The node of an author, now and then 0. */

@@ -1,5 +1,5 @@
 /* Chains of calls on one book. */
-#include "../cases/book_parts.h"
+#include "book_parts.h"
 #include "bytes.h"
 #include "sorts.h"
 

@@ -6,7 +6,7 @@
 #include <stdio.h>
 #include <stdlib.h>
 
-#include "../cases/lines.h"
+#include "edges.h"
 #include "hold.h"
 #include "sorts.h"
 
@@ -14,10 +14,11 @@ static const struct {
     void (*run)(void);
     size_t share;
 } sorts[] = {
-    {check_case, 10},      {insert_case, 25},   {remove_case, 20},    {gap_case, 30},        {rename_case, 60},
-    {take_back_case, 60},  {table_case, 10},    {step_case, 15},      {add_case, 30},        {write_case, 20},
-    {read_case, 30},       {long_check_case, 2}, {long_edit_case, 10}, {long_rename_case, 3}, {book_chain, 4},
-    {epoch_chain, 2},      {message_chain, 4},
+    {check_case, 10},      {slot_case, 5},      {insert_case, 25},    {remove_case, 20},     {gap_case, 30},
+    {rename_case, 60},     {take_back_case, 60}, {table_case, 20},    {step_case, 15},       {walk_case, 15},
+    {add_case, 30},        {write_case, 40},    {read_case, 40},      {cuts_case, 2},        {many_case, 6},
+    {long_check_case, 4},  {long_edit_case, 10}, {long_rename_case, 6}, {book_chain, 4},     {epoch_chain, 2},
+    {message_chain, 4},
 };
 
 static size_t all_shares(void)

@@ -1,8 +1,6 @@
 /* Cases of one call on an epoch table, and chains of them. */
-#include "../reference/epochs.h"
-
-#include "../cases/epoch_parts.h"
 #include "bytes.h"
+#include "epoch_parts.h"
 #include "sorts.h"
 
 static Bytes table;
@@ -14,18 +12,19 @@ static void make_table(const Row *row)
         write_entry(table.bytes + i * ENTRY_BYTES, row->entries[i]);
 }
 
-static Row begin_table(size_t damaged)
+/* An entry is damaged once in so many times, and the bytes once in so many. */
+static Row begin_table(size_t entry, size_t bytes)
 {
     choose_epoch_numbers();
-    Row row = maybe_damaged_table(damaged);
+    Row row = maybe_damaged_table(entry);
     make_table(&row);
-    maybe_damage_bytes(20, &table, ENTRY_BYTES);
+    maybe_damage_bytes(bytes, &table, ENTRY_BYTES);
     return row;
 }
 
 void table_case(void)
 {
-    begin_table(2);
+    begin_table(2, 2);
     hold_check_epochs(&table);
 }
 
@@ -36,15 +35,22 @@ static size_t any_index(const Row *row)
 
 void step_case(void)
 {
-    Row row = begin_table(10);
+    Row row = begin_table(10, 20);
     uint8_t step;
     uint32_t index;
     hold_next_step(&table, any_index(&row), &step, &index);
 }
 
+void walk_case(void)
+{
+    Row row = begin_table(10, 20);
+    Path walked;
+    hold_walk(&table, any_index(&row), &walked);
+}
+
 void add_case(void)
 {
-    Row row = begin_table(10);
+    Row row = begin_table(10, 20);
     Entry added = epoch_to_add(&row);
     hold_add_epoch(&table, any_index(&row), maybe_no_node(added.node), added.sequence,
                    room_for(table.length + ENTRY_BYTES));
@@ -52,20 +58,10 @@ void add_case(void)
 
 /* ---- chains */
 
-static void walk_to_target(size_t current)
-{
-    uint8_t step = UP;
-    uint32_t index;
-    for (size_t steps = 0; steps <= ENTRY_LIMIT && step != STAY; steps++) {
-        if (hold_next_step(&table, current, &step, &index).answer != ACCEPTED)
-            return;
-        current = index;
-    }
-}
-
 void epoch_chain(void)
 {
     Row row = {1, {{0, 0, 0}}};
+    Path walked;
     choose_epoch_numbers();
     make_table(&row);
     size_t adds = once_in(4) ? ENTRY_LIMIT + 2 : random_below(8);
@@ -78,7 +74,7 @@ void epoch_chain(void)
             continue;
         take_output(&table, outcome.count * ENTRY_BYTES);
         row.entries[row.count++] = read_entry(table.bytes + table.length - ENTRY_BYTES);
-        walk_to_target(random_below(row.count));
+        hold_walk(&table, random_below(row.count), &walked);
     }
     hold_check_epochs(&table);
 }

@@ -13,7 +13,6 @@
 #include "../../include/kadalumbir.h"
 #include "../reference/chance.h"
 #include "../reference/edits.h"
-#include "../reference/epochs.h"
 #include "../reference/renames.h"
 
 /* ---- the calls, what was met of them, and what differed */
@@ -63,6 +62,11 @@ static Call call;
 size_t cases_held(void)
 {
     return held;
+}
+
+size_t differences_found(void)
+{
+    return differences;
 }
 
 static void differs(const char *what, uint64_t is, uint64_t must)
@@ -129,13 +133,21 @@ static void lend_input(Lent *lent, const Bytes *input)
     memcpy(lent->end - input->length, input->bytes, input->length);
 }
 
+/* What byte i of the output is before the call, those before it among them. */
+static uint8_t canary;
+
+static uint8_t before(size_t i)
+{
+    return (uint8_t)(canary + 7 * i);
+}
+
 static void lend_output(size_t room)
 {
-    uint8_t canary = (uint8_t)random_below(256);
+    canary = (uint8_t)random_below(256);
     lend(&output, room);
     uint8_t *front = output.end - room - FRONT;
     for (size_t i = 0; i < FRONT + room; i++)
-        front[i] = must_bytes[i] = (uint8_t)(canary + 7 * i);
+        front[i] = must_bytes[i] = before(i);
 }
 
 /* Begins a case: its call, one or two inputs, and the room of its output. */
@@ -171,6 +183,70 @@ void take_output(Bytes *taken, size_t length)
 {
     taken->length = length;
     memcpy(taken->bytes, output.end - output.length, length);
+}
+
+size_t changed_after(size_t length)
+{
+    size_t changed = 0;
+    for (size_t i = length; i < output.length; i++)
+        if (output.end[i - output.length] != before(FRONT + i))
+            changed++;
+    return changed;
+}
+
+/* ---- ways */
+
+enum {
+    LONG_LOG = 16 * SLOT_BYTES, /* longer ones are */
+    MOST_WAYS = 16
+};
+
+/* What has several ways to come to what it gives: the rows of the table of "Renaming one name"; the bullets of "Taking it back"
+ * with their cases; the three steps; walks that stay, go down, and go up first; of a message the kinds that are accepted and
+ * the reasons of 15. */
+typedef enum {
+    BY_RENAME,
+    BY_LONG_RENAME,
+    BY_TAKING_BACK,
+    BY_LONG_TAKING_BACK,
+    BY_STEP,
+    BY_WALK,
+    BY_WRITING,
+    BY_READING,
+    HAVE_WAYS
+} HasWays;
+
+static const struct {
+    const char *name;
+    size_t ways;
+    size_t rarer; /* by how much fewer times are enough than of the others */
+} have_ways[HAVE_WAYS] = {
+    [BY_RENAME] = {"rename", 6, 1},
+    [BY_LONG_RENAME] = {"rename, a long log", 6, 10},
+    [BY_TAKING_BACK] = {"take_back", 12, 1},
+    [BY_LONG_TAKING_BACK] = {"take_back, a long log", 12, 10},
+    [BY_STEP] = {"next_step", 3, 1},
+    [BY_WALK] = {"walk", 3, 1},
+    [BY_WRITING] = {"write_message", 13, 1},
+    [BY_READING] = {"read_message", 16, 1},
+};
+
+static struct {
+    const char *words;
+    size_t times;
+} ways[HAVE_WAYS][MOST_WAYS];
+
+static void count_way(HasWays of, const char *words)
+{
+    size_t i = 0;
+    while (i < have_ways[of].ways && ways[of][i].words != NULL && strcmp(ways[of][i].words, words) != 0)
+        i++;
+    if (i == have_ways[of].ways) {
+        printf("a way that 01 does not have: %s, %s\n", have_ways[of].name, words);
+        exit(EXIT_FAILURE);
+    }
+    ways[of][i].words = words;
+    ways[of][i].times++;
 }
 
 /* ---- calls */
@@ -253,43 +329,20 @@ Outcome hold_new_name(const Bytes *page, size_t gap, uint16_t node, uint32_t seq
     return hold(is, must);
 }
 
-/* How often a name was renamed or taken back in each way, of those that 01 has: the rows of the table of "Renaming one name",
- * and the bullets of "Taking it back" with their cases. */
-enum { WAYS = 6 + 12 };
-
-static struct {
-    const char *words;
-    size_t times;
-} ways[WAYS];
-
-static void count_way(const char *words)
-{
-    size_t i = 0;
-    while (i < WAYS && ways[i].words != NULL && strcmp(ways[i].words, words) != 0)
-        i++;
-    if (i == WAYS) {
-        printf("a way that 01 does not have: %s\n", words);
-        exit(EXIT_FAILURE);
-    }
-    ways[i].words = words;
-    ways[i].times++;
-}
-
 /* Of an accepted call. A long page is left out: it has no way of its own. */
-static void count_ways(const Bytes *page, const Bytes *log, uint16_t node, uint32_t sequence,
-                       Renamed (*change)(const Renaming *renaming, const Name *name))
+static void count_renamed(HasWays of, const Bytes *page, const Bytes *log, uint16_t node, uint32_t sequence,
+                          Renamed (*change)(const Renaming *renaming, const Name *name))
 {
-    enum { MOST_SLOTS = 16 };
     static Page slots;
     static Renaming renaming;
-    if (page->length > MOST_SLOTS * SLOT_BYTES)
+    if (page->length > LONG_LOG)
         return;
     read_page(page->bytes, page->length, &slots);
     read_page(log->bytes, log->length, &renaming.log);
     renaming.node = node;
     renaming.sequence = sequence;
     for (size_t i = 0; i < slots.count; i++)
-        count_way(change(&renaming, &slots.slots[i].name).by);
+        count_way(of, change(&renaming, &slots.slots[i].name).by);
 }
 
 Outcome hold_rename(const Bytes *page, const Bytes *log, uint16_t node, uint32_t sequence, size_t room)
@@ -300,7 +353,7 @@ Outcome hold_rename(const Bytes *page, const Bytes *log, uint16_t node, uint32_t
     Outcome must = rename_page(page->bytes, page->length, log->bytes, log->length, node, sequence, must_bytes + FRONT,
                                room);
     if (must.answer == ACCEPTED)
-        count_ways(page, log, node, sequence, rename_name);
+        count_renamed(log->length <= LONG_LOG ? BY_RENAME : BY_LONG_RENAME, page, log, node, sequence, rename_name);
     return hold(is, must);
 }
 
@@ -312,7 +365,8 @@ Outcome hold_take_back(const Bytes *page, const Bytes *log, uint16_t node, uint3
     Outcome must = take_page_back(page->bytes, page->length, log->bytes, log->length, node, sequence,
                                   must_bytes + FRONT, room);
     if (must.answer == ACCEPTED)
-        count_ways(page, log, node, sequence, take_name_back);
+        count_renamed(log->length <= LONG_LOG ? BY_TAKING_BACK : BY_LONG_TAKING_BACK, page, log, node, sequence,
+                      take_name_back);
     return hold(is, must);
 }
 
@@ -325,7 +379,39 @@ Outcome hold_next_step(const Bytes *table, size_t current, uint8_t *step, uint32
     NextStep next = next_step(table->bytes, table->length, current);
     hold_number("the step", *step, (uint64_t)next.step);
     hold_number("the index", *index, next.index);
+    if (next.answer == ACCEPTED)
+        count_way(BY_STEP, next.step == STAY ? "stay" : next.step == UP ? "up" : "down");
     return hold(is, refused(next.answer));
+}
+
+/* "a proper prefix is smaller": the target has no child, so that no walk goes up alone. */
+static const char *words_of(const Path *way, size_t from)
+{
+    if (way->count == 0)
+        return "stay";
+    return way->indices[0] < from ? "up and down" : "down";
+}
+
+int hold_walk(const Bytes *table, size_t current, Path *walked)
+{
+    uint8_t step;
+    uint32_t index;
+    int answer = hold_next_step(table, current, &step, &index).answer;
+    walked->count = 0;
+    if (answer != ACCEPTED)
+        return answer;
+    while (step != STAY && walked->count < ENTRY_LIMIT) {
+        walked->indices[walked->count++] = index;
+        hold_next_step(table, index, &step, &index);
+    }
+    Table entries;
+    read_table(table->bytes, table->length, &entries);
+    Path way = way_to_target(&entries, current);
+    hold_number("the number of steps", walked->count, way.count);
+    for (size_t i = 0; i < way.count && i < walked->count; i++)
+        hold_number("an index of the walk", walked->indices[i], way.indices[i]);
+    count_way(BY_WALK, words_of(&way, current));
+    return answer;
 }
 
 Outcome hold_add_epoch(const Bytes *table, size_t parent, uint16_t node, uint32_t sequence, size_t room)
@@ -336,6 +422,8 @@ Outcome hold_add_epoch(const Bytes *table, size_t parent, uint16_t node, uint32_
     return hold(is, must);
 }
 
+static const char *const kinds[] = {[INSERT] = "insert", [REMOVE] = "remove", [RENAME] = "rename"};
+
 Outcome hold_write_message(const Numbers *numbers, const Bytes *names, size_t room)
 {
     begin(WRITE_MESSAGE, names, NULL, room);
@@ -343,6 +431,10 @@ Outcome hold_write_message(const Numbers *numbers, const Bytes *names, size_t ro
                                            numbers->author.node, numbers->author.sequence, numbers->line, first.bytes,
                                            first.length, output.bytes, room);
     Outcome must = write_message(numbers, names->bytes, names->length, must_bytes + FRONT, room);
+    if (must.answer == MALFORMED)
+        count_way(BY_WRITING, wrong_with_parts(numbers, names->bytes, names->length));
+    if (must.answer == ACCEPTED)
+        count_way(BY_WRITING, kinds[numbers->kind]);
     return hold(is, must);
 }
 
@@ -361,6 +453,10 @@ Outcome hold_read_message(const Bytes *message, Numbers *numbers, size_t room)
     hold_number("the author's node", numbers->author.node, said.author.node);
     hold_number("the author's sequence", numbers->author.sequence, said.author.sequence);
     hold_number("the line number", numbers->line, said.line);
+    if (must.answer == MALFORMED)
+        count_way(BY_READING, wrong_with_message(message->bytes, message->length));
+    if (must.answer == ACCEPTED)
+        count_way(BY_READING, kinds[said.kind]);
     return hold(is, must);
 }
 
@@ -379,14 +475,16 @@ static bool tell_call(Call of, size_t least)
     return enough;
 }
 
-static bool tell_ways(size_t least)
+static bool tell_ways(HasWays of, size_t least)
 {
     bool enough = true;
-    printf("how often a name was renamed or taken back in each way:\n");
-    for (size_t i = 0; i < WAYS; i++) {
-        printf("  %s: %zu%s\n", ways[i].words != NULL ? ways[i].words : "none", ways[i].times,
-               ways[i].times < least ? " TOO FEW" : "");
-        enough = enough && ways[i].times >= least;
+    least /= have_ways[of].rarer;
+    printf("  %s\n", have_ways[of].name);
+    for (size_t i = 0; i < have_ways[of].ways; i++) {
+        const char *words = ways[of][i].words;
+        size_t times = ways[of][i].times;
+        printf("    %s: %zu%s\n", words != NULL ? words : "none", times, times < least ? " TOO FEW" : "");
+        enough = enough && times >= least;
     }
     return enough;
 }
@@ -397,7 +495,9 @@ bool tell_what_was_met(size_t least)
     printf("%zu cases, %zu differences; how often each answer was met:\n", held, differences);
     for (int of = 0; of < CALLS; of++)
         enough = tell_call((Call)of, least) && enough;
-    enough = tell_ways(least) && enough;
+    printf("how often a call came to what it gives in each way:\n");
+    for (int of = 0; of < HAVE_WAYS; of++)
+        enough = tell_ways((HasWays)of, least) && enough;
     if (!enough)
         printf("an answer or a way was met fewer than %zu times\n", least);
     return enough && differences == 0;

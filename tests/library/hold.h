@@ -5,6 +5,7 @@
 #ifndef TESTS_LIBRARY_HOLD_H
 #define TESTS_LIBRARY_HOLD_H
 
+#include "../reference/epochs.h"
 #include "../reference/messages.h"
 
 enum {
@@ -31,13 +32,20 @@ Outcome hold_add_epoch(const Bytes *table, size_t parent, uint16_t node, uint32_
 Outcome hold_write_message(const Numbers *numbers, const Bytes *names, size_t room);
 Outcome hold_read_message(const Bytes *message, Numbers *numbers, size_t room);
 
-/* The first bytes of the output of the last call, as the library left them. */
+/* Follows the next step from an entry until one stays or is refused, gives the answer of the first, and holds the indices
+ * passed to those of the plain C. */
+int hold_walk(const Bytes *table, size_t current, Path *walked);
+
+/* The first bytes of the output of the last call, as the library left them; and how many bytes after those are not as they
+ * were before it. */
 void take_output(Bytes *taken, size_t length);
+size_t changed_after(size_t length);
 
-/* How many cases were held. */
+/* How many cases were held, and how many numbers or outputs differed in them. */
 size_t cases_held(void);
+size_t differences_found(void);
 
-/* Prints how often each answer of each call was met, and each way in which a name is renamed or taken back. Whether no case
+/* Prints how often each answer of each call was met, and each way in which a call comes to what it gives. Whether no case
  * differed, and each of those that 01 has was met at least so often. */
 bool tell_what_was_met(size_t least);
 

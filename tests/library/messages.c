@@ -1,11 +1,21 @@
 /* Cases of one call on a message, and chains of them. */
 #include <string.h>
 
-#include "../cases/message_parts.h"
 #include "bytes.h"
+#include "message_parts.h"
 #include "sorts.h"
 
 static Bytes names, message, again;
+
+static void damage_names(void)
+{
+    static const size_t less[] = {1, SLOT_BYTES - 1, SLOT_BYTES, SLOT_BYTES + 1, MOST_BYTES};
+    switch (random_below(3)) {
+    case 0: spoil_slot(&names); break;
+    case 1: cut_bytes(&names, less[random_below(LENGTH(less))]); break;
+    default: damage_bytes(&names, SLOT_BYTES); break;
+    }
+}
 
 void write_case(void)
 {
@@ -13,8 +23,18 @@ void write_case(void)
     MessageParts parts = message_parts();
     Fields fields = fields_of(&parts);
     make_log(&names, &parts.names);
-    maybe_damage_bytes(15, &names, SLOT_BYTES);
+    if (once_in(2))
+        damage_names();
     hold_write_message(&parts.numbers, &names, room_for(message_of(&fields).length));
+}
+
+/* The first bytes of a message. */
+static void hold_beginning(const Message *made, size_t length, size_t room)
+{
+    Numbers numbers;
+    message.length = length;
+    memcpy(message.bytes, made->bytes, length);
+    hold_read_message(&message, &numbers, room);
 }
 
 void read_case(void)
@@ -27,10 +47,50 @@ void read_case(void)
     Message made = message_of(&fields);
     if (once_in(4))
         damage_message(&made);
-    message.length = made.length;
-    memcpy(message.bytes, made.bytes, made.length);
+    hold_beginning(&made, made.length, room_for(parts.names.count * SLOT_BYTES));
+}
+
+void cuts_case(void)
+{
+    choose_numbers();
+    MessageParts parts = message_parts();
+    Fields fields = fields_of(&parts);
+    Message made = message_of(&fields);
+    for (size_t length = 0; length < made.length; length++)
+        hold_beginning(&made, length, parts.names.count * SLOT_BYTES);
+}
+
+/* The message with one more field of a name, above those of a long page. */
+static void read_one_more(void)
+{
     Numbers numbers;
-    hold_read_message(&message, &numbers, room_for(parts.names.count * SLOT_BYTES));
+    Tuple above = {10, 2, 0, 0};
+    uint8_t *at = message.bytes + message.length;
+    at[0] = NAME_TAG;
+    at[1] = 0;
+    at[2] = TUPLE_BYTES;
+    write_tuple(at + FIELD_HEAD_BYTES, above);
+    message.length += FIELD_HEAD_BYTES + TUPLE_BYTES;
+    hold_read_message(&message, &numbers, MOST_BYTES);
+}
+
+void many_case(void)
+{
+    static const size_t sizes[] = {0, 1, 2, 128, 255, 256, 256, 257};
+    choose_numbers();
+    size_t count = once_in(2) ? sizes[random_below(LENGTH(sizes))] : random_below(SLOT_LIMIT + 2);
+    Name name = once_in(3) ? deepened(random_name()) : random_name();
+    if (once_in(8))
+        break_name(&name);
+    fill_slots(&names, count, name);
+    Numbers numbers = {RENAME, {0, 0}, {1, 1}, 0};
+    size_t head = 3 * FIELD_HEAD_BYTES + KIND_BYTES + 2 * PAIR_BYTES;
+    size_t room = room_for(head + count * (FIELD_HEAD_BYTES + name.depth * TUPLE_BYTES));
+    Outcome written = hold_write_message(&numbers, &names, room);
+    take_output(&message, written.count);
+    hold_read_message(&message, &numbers, names.length);
+    if (written.answer == ACCEPTED)
+        read_one_more();
 }
 
 /* ---- chains */
@@ -46,18 +106,6 @@ static Numbers make_parts(void)
     if (parts.numbers.kind == RENAME && once_in(4))
         make_long_page(&names, long_count(), true);
     return parts.numbers;
-}
-
-/* One more field of a name, above those of a long page. */
-static void add_name_field(void)
-{
-    Tuple above = {10, 2, 0, 0};
-    uint8_t *at = message.bytes + message.length;
-    at[0] = NAME_TAG;
-    at[1] = 0;
-    at[2] = TUPLE_BYTES;
-    write_tuple(at + FIELD_HEAD_BYTES, above);
-    message.length += FIELD_HEAD_BYTES + TUPLE_BYTES;
 }
 
 static void read_damaged(void)
@@ -83,6 +131,5 @@ void message_chain(void)
         take_output(&names, read.count * SLOT_BYTES);
         hold_write_message(&numbers, &names, room_for(message.length));
     }
-    add_name_field();
-    hold_read_message(&message, &numbers, MOST_BYTES);
+    read_one_more();
 }

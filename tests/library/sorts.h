@@ -4,6 +4,7 @@
 
 /* One call with random arguments. */
 void check_case(void);
+void slot_case(void);
 void insert_case(void);
 void remove_case(void);
 void gap_case(void);
@@ -15,7 +16,13 @@ void add_case(void);
 void write_case(void);
 void read_case(void);
 
-/* The same with a page, a log or both of up to 256 slots. */
+/* The steps from an entry to the target; the reading of each proper beginning of a message; a rename of up to 257 names,
+ * written and read back. */
+void walk_case(void);
+void cuts_case(void);
+void many_case(void);
+
+/* One call with a page, a log or both of up to 256 slots. */
 void long_check_case(void);
 void long_edit_case(void);
 void long_rename_case(void);

@@ -1,309 +1,206 @@
 // What the lines ask for.
+ghost use mathlib.Core.Path.{_≡_};
+ghost use mathlib.Core.Bool.{true};
 ghost use Prim.Native.Nat.{_*_, _≤_};
 ghost use lib.ListN.{length};
+ghost use Rattle.pages.specs.Pages.{isLog};
 ghost use Rattle.slots.specs.Slots.{slotSize};
+use crate::line::NAMES;
+use crate::line::begins;
+use crate::line::first;
+use crate::line::line_end;
+use crate::line::number;
+use crate::line::put_names;
+use libc::STDOUT_FILENO;
+use listing_text::TEXT;
 use names::Author;
+use names::Joined;
+use names::Name;
+use names::Tuple;
+use answers::Answer;
 use pages::PAGE;
-use pages::Place;
-use slot_words::MANY;
-use slot_words::NAMES;
-use slot_words::put;
-use slot_words::put_all;
-use slot_words::show;
-use slots::HEAD;
+use pages::SLOTS;
 use slots::SLOT;
-use words::BEFORE;
-use words::after_word;
-use words::after_words;
-use words::answer;
-use words::byte;
-use words::first;
-use words::first_mut;
-use words::number;
-use words::say;
 
-fn check(slot: &[u8; SLOT]) {
-    answer(pages::check_slot(slot));
+// The line number of the slots.
+const LINE: u32 = 7;
+
+fn write(text: &[u8]) {
+    io::write_all(STDOUT_FILENO, text);
 }
 
-fn slot_case(text: &[u8], at: usize) {
-    let mut slot = [0u8; SLOT];
-    put(&mut slot, 0, 7, text, at);
-    check(&slot);
+fn end_line() {
+    write(b"\n");
 }
 
-fn byte_case(text: &[u8], at: usize) {
-    let place = number(text, at);
-    let value = number(text, place.next);
-    let mut slot = [0u8; SLOT];
-    put(&mut slot, 0, 7, text, value.next);
-    let i = place.value as usize;
-    if i < SLOT {
-        slot[i] = (value.value % 256) as u8;
-    }
-    check(&slot);
+// What comes back, after the line: two numbers.
+fn say(a: u64, b: u64) {
+    write(b": ");
+    io::print_decimal(STDOUT_FILENO, a);
+    write(b" ");
+    io::print_decimal(STDOUT_FILENO, b);
+    end_line();
 }
 
-fn page_case(text: &[u8], at: usize) {
-    let mut page = [0u8; NAMES * SLOT];
-    let n = put_all(&mut page, text, at, true, 0);
-    answer(pages::check_page(first(&page, SLOT * n)));
+fn say_answer(a: Answer) {
+    say(answers::number(a) as u64, answers::count(a) as u64);
 }
 
-fn log_case(text: &[u8], at: usize) {
-    let line = number(text, at);
-    let mut log = [0u8; NAMES * SLOT];
-    let n = put_all(&mut log, text, line.next, false, line.value);
-    answer(pages::check_log(first(&log, SLOT * n)));
+fn show(page: &[u8]) {
+    let mut text = [0u8; TEXT];
+    let end = listing_text::list(page, b"", &mut text);
+    write(&text[..end]);
 }
 
-// n slots named 9.2.0.0, 9.2.1.0, ..
-fn fill(page: &mut [u8], n: usize)
-    requires { ⌜ (slotSize * n ≤ length (now page)) × (n ≤ 257) ⌝ }
-{
-    slot_words::fill(page, n, b"9.2.0.0", 0);
-}
+// ── renames ──
 
-fn size_case(text: &[u8], at: usize, log: bool) {
-    let n = number(text, at);
-    let mut bytes = [0u8; MANY * SLOT];
-    fill(&mut bytes, MANY);
-    sized(&bytes, n.value as usize, log);
-}
-
-fn sized(bytes: &[u8; MANY * SLOT], n: usize, log: bool) {
-    if log {
-        answer(pages::check_log(first(bytes, n)));
-    } else {
-        answer(pages::check_page(first(bytes, n)));
+fn author(node: u32, sequence: u32) -> Author {
+    Author {
+        node: (node % 65536) as u16,
+        sequence,
     }
 }
 
-fn find(page: &[u8], slot: &[u8; SLOT]) {
-    if pages::page_rises(page) {
-        match pages::find(page, slot) {
-            Place::Here(k) => say(0, k as u64),
-            Place::Gap(k) => say(1, k as u64),
-        }
+fn page_case(back: bool, page: &[u8], log: &[u8], by: Author) {
+    let mut out = [0u8; NAMES * SLOT];
+    let a = rename_page(back, page, log, by, &mut out);
+    say_answer(a);
+    if answers::number(a) == 0 {
+        show(first(&out, page.len()));
     }
 }
 
-fn find_case(text: &[u8], at: usize) {
-    let mut slot = [0u8; SLOT];
-    let next = put(&mut slot, 0, 0, text, at);
-    let mut page = [0u8; NAMES * SLOT];
-    let n = put_all(&mut page, text, next, true, 0);
-    find(first(&page, SLOT * n), &slot);
-}
-
-// An edit; a page that it wrote is shown.
-fn edit(insert: bool, page: &[u8], slot: &[u8], out: &mut [u8]) -> usize {
-    if insert {
-        let a = edits::insert(page, slot, out);
-        answer(a);
-        return pages::count(a);
-    }
-    let a = edits::remove(page, slot, out);
-    answer(a);
-    pages::count(a)
-}
-
-fn edit_case(text: &[u8], at: usize, insert: bool) {
-    let room = number(text, at);
-    let mut slot = [0u8; SLOT];
-    let next = put(&mut slot, 0, 7, text, room.next);
-    let mut page = [0u8; NAMES * SLOT];
-    let n = put_all(&mut page, text, next, true, 0);
-    let mut out = [BEFORE; NAMES * SLOT];
-    let count = edit(
-        insert,
-        first(&page, SLOT * n),
-        &slot,
-        first_mut(&mut out, room.value as usize),
-    );
-    if 0 < count {
-        if count <= NAMES {
-            show(first(&out, SLOT * count));
-        }
-    }
-}
-
-fn many_case(text: &[u8], at: usize, insert: bool) {
-    let n = number(text, at);
-    let sequence = number(text, n.next);
-    let room = number(text, sequence.next);
-    let lines = n.value as usize;
-    if lines <= 256 {
-        let mut page = [0u8; PAGE];
-        fill(&mut page, lines);
-        let mut slot = [0u8; SLOT];
-        put(&mut slot, 0, 7, b"9.2.0.0", 0);
-        slots::write_u32(&mut slot, HEAD + 4, sequence.value);
-        let mut out = [BEFORE; PAGE];
-        edit(
-            insert,
-            first(&page, SLOT * lines),
-            &slot,
-            first_mut(&mut out, room.value as usize),
-        );
-    }
-}
-
-fn new_case(text: &[u8], at: usize) {
-    let gap = number(text, at);
-    let node = number(text, gap.next);
-    let mut page = [0u8; NAMES * SLOT];
-    let n = put_all(&mut page, text, node.next, true, 0);
-    ask(
-        first(&page, SLOT * n),
-        gap.value as usize,
-        (node.value % 65536) as u16,
-    );
-}
-
-// The answer, and the name that was made, as the slot of line 0.
-fn ask(page: &[u8], gap: usize, node: u16) {
-    let author = Author { node, sequence: 11 };
-    let made = gaps::new_name(page, gap, author);
-    let a = made.answer;
-    let new = made.name;
-    answer(a);
-    if pages::number(a) == 0 {
-        let mut slot = [0u8; SLOT];
-        slots::write_slot(&mut slot, 0, 0, new);
-        show(&slot);
-    }
-}
-
-// A rename, or a taking back; a page that it wrote is shown.
-fn renamed(back: bool, page: &[u8], log: &[u8], author: Author, out: &mut [u8]) -> usize {
+fn rename_page(back: bool, page: &[u8], log: &[u8], by: Author, out: &mut [u8]) -> Answer {
     if back {
-        let a = renames::take_back(page, log, author, out);
-        answer(a);
-        return pages::count(a);
+        return page_renames::take_back(page, log, by, out);
     }
-    let a = renames::rename(page, log, author, out);
-    answer(a);
-    pages::count(a)
+    page_renames::rename(page, log, by, out)
 }
 
-// The page of the names from a place on, with that log.
-fn with_log(text: &[u8], at: usize, back: bool, log: &[u8], author: Author, room: usize) {
+// One name by value; 6 where what it becomes has more than eight tuples.
+fn name_case(back: bool, x: Name, log: &[u8], by: Author) {
+    if !pages::log_ok(log) {
+        return;
+    }
+    let joined = rename_name(back, x, log, by);
+    if !joined.fits {
+        say(6, 0);
+        return;
+    }
+    let name = joined.name;
+    let mut slot = [0u8; SLOT];
+    slots::write_slot(&mut slot, 0, LINE, name);
+    say(0, 1);
+    show(&slot);
+}
+
+fn rename_name(back: bool, x: Name, log: &[u8], by: Author) -> Joined
+    requires { ⌜ isLog (now log) ≡ true ⌝ }
+{
+    if back {
+        return one_name::take_back_name(log, by, x);
+    }
+    one_name::rename_name(log, by, x)
+}
+
+fn rename_case(line: &[u8], at: usize, log: &[u8], back: bool, by_value: bool) {
+    let node = number(line, at);
+    let sequence = number(line, node.next);
+    let by = author(node.value, sequence.value);
     let mut page = [0u8; NAMES * SLOT];
-    let n = put_all(&mut page, text, at, true, 0);
-    let mut out = [BEFORE; NAMES * SLOT];
-    let count = renamed(
-        back,
-        first(&page, SLOT * n),
-        log,
-        author,
-        first_mut(&mut out, room),
+    let n = put_names(&mut page, LINE, line, sequence.next);
+    rename_with(first(&page, SLOT * n), log, by, back, by_value);
+}
+
+fn rename_with(page: &[u8], log: &[u8], by: Author, back: bool, by_value: bool) {
+    if by_value {
+        name_case(back, pages::name_of(page, 0), log, by);
+    } else {
+        page_case(back, page, log, by);
+    }
+}
+
+// ── a page of 256 slots ──
+
+fn counted(k: u32) -> Name {
+    name_values::one(Tuple {
+        position: 9,
+        node: 2,
+        sequence: k,
+        offset: 0,
+    })
+}
+
+fn fill(page: &mut [u8])
+    requires { ⌜ slotSize * 256 ≤ length (now page) ⌝ }
+{
+    let mut k: usize = 0;
+    while k < SLOTS {
+        slots::write_slot(page, SLOT * k, LINE, counted(k as u32));
+        k += 1;
+    }
+}
+
+fn insert_case(line: &[u8], at: usize) {
+    let mut page = [0u8; PAGE];
+    fill(&mut page);
+    let mut slot = [0u8; SLOT];
+    slots::write_slot(&mut slot, 0, LINE, counted(number(line, at).value));
+    let mut out = [0u8; PAGE];
+    say_answer(edits::insert(&page, &slot, &mut out));
+}
+
+// ── epochs ──
+
+// "(1,1) and (2,2) under the first, (1,1) with child (3,6), (2,2) with child (2,7)": node, sequence and parent of each
+const EPOCHS: [u8; 40] =
+    *b"\0\0\0\0\0\0\0\0\0\x01\0\0\0\x01\0\0\0\x02\0\0\0\x02\0\0\0\x03\0\0\0\x06\0\x01\0\x02\0\0\0\x07\0\x02";
+
+fn step_case(line: &[u8], at: usize) {
+    let next = epochs::next_step(&EPOCHS, number(line, at).value as usize);
+    say(
+        epochs::step_number(next) as u64,
+        epochs::step_index(next) as u64,
     );
-    if 0 < count {
-        if count <= NAMES {
-            show(first(&out, SLOT * count));
-        }
+}
+
+// ── lines ──
+
+// A line: it is written, and what it asks for is done. What a word asks for stands after it and a space.
+fn run(line: &[u8], log: &[u8]) {
+    write(line);
+    if begins(line, b"rename") {
+        rename_case(line, 7, log, false, false);
+    } else if begins(line, b"back") {
+        rename_case(line, 5, log, true, false);
+    } else if begins(line, b"rename-name") {
+        rename_case(line, 12, log, false, true);
+    } else if begins(line, b"back-name") {
+        rename_case(line, 10, log, true, true);
+    } else if begins(line, b"insert") {
+        insert_case(line, 7);
+    } else if begins(line, b"step") {
+        step_case(line, 5);
+    } else {
+        end_line();
     }
 }
 
-fn rename_case(text: &[u8], at: usize, back: bool) {
-    let room = number(text, at);
-    let by = words::author(text, room.next);
-    let n = number(text, by.next);
-    let k = n.value as usize;
-    if k <= NAMES {
-        let mut log = [0u8; NAMES * SLOT];
-        put_all(&mut log, text, n.next, false, 0);
-        let author = by.author;
-        with_log(
-            text,
-            after_words(text, n.next, k),
-            back,
-            first(&log, SLOT * k),
-            author,
-            room.value as usize,
-        );
+fn run_all(text: &[u8], log: &[u8]) {
+    let mut at: usize = 0;
+    while at < text.len() {
+        let end = line_end(text, at);
+        run(&text[at..end], log);
+        at = end + 1;
     }
 }
 
-fn long_case(text: &[u8], at: usize, back: bool) {
-    let n = number(text, at);
-    let by = words::author(text, n.next);
-    let k = n.value as usize;
-    if k <= MANY {
-        let mut log = [0u8; MANY * SLOT];
-        fill(&mut log, MANY);
-        let author = by.author;
-        with_log(text, by.next, back, first(&log, SLOT * k), author, PAGE);
-    }
-}
+// "Log L: r0 = (9,2,0,0), r1 = (9,2,0,0)(6,1,0,0), r2 = (9,2,0,1)"
+const L: [u8; 32] = *b"9.2.0.0 9.2.0.0/6.1.0.0 9.2.0.1\n";
 
-fn check_case(text: &[u8], at: usize, word: u8) {
-    match word {
-        b's' => slot_case(text, at),
-        b'b' => byte_case(text, at),
-        b'p' => page_case(text, at),
-        b'l' => log_case(text, at),
-        b'c' => size_case(text, at, false),
-        _ => size_case(text, at, true),
-    }
-}
-
-fn rename_or_check(text: &[u8], at: usize, word: u8) {
-    match word {
-        b'R' => rename_case(text, at, false),
-        b'T' => rename_case(text, at, true),
-        b'L' => long_case(text, at, false),
-        b'w' => long_case(text, at, true),
-        _ => check_case(text, at, word),
-    }
-}
-
-fn call_case(text: &[u8], at: usize, word: u8) {
-    match word {
-        b'f' => find_case(text, at),
-        b'i' => edit_case(text, at, true),
-        b'r' => edit_case(text, at, false),
-        b'a' => many_case(text, at, true),
-        b'd' => many_case(text, at, false),
-        b'n' => new_case(text, at),
-        _ => rename_or_check(text, at, word),
-    }
-}
-
-// The letter that tells a line's kind: its first, or a capital where another word begins with it.
-fn kind(text: &[u8], at: usize) -> u8
-    requires { ⌜ at ≤ length (now text) ⌝ }
-{
-    let word = byte(text, at);
-    match byte(text, at + 2) {
-        b'n' => {
-            if word == b'r' {
-                return b'R';
-            }
-            if word == b'l' {
-                return b'L';
-            }
-            word
-        }
-        b'k' => b'T',
-        _ => word,
-    }
-}
-
-// A line: it is written, and what it asks for is done.
-fn run(text: &[u8], at: usize)
-    requires { ⌜ at ≤ length (now text) ⌝ }
-{
-    if words::write_line(text, at) {
-        call_case(text, after_word(text, at), kind(text, at));
-    }
-}
-
-pub(crate) fn run_all(text: &[u8]) {
-    for at in 0..text.len() {
-        if words::line_begins(text, at) {
-            run(text, at);
-        }
-    }
+// The lines of a text, with log L.
+pub(crate) fn run_text(text: &[u8]) {
+    let mut log = [0u8; NAMES * SLOT];
+    put_names(&mut log, 0, &L, 0);
+    run_all(text, &log);
 }

@@ -1,37 +1,43 @@
--- Insert and remove keep a page a page, and undo one another. Over lists of slots first, then over 01's outcomes:
--- `insert-page`, `remove-page`, with the slots they write, `inserted-slots`, `removed-slots`; `insert-remove`, `remove-insert`.
+-- Insert and remove keep a page a page, and undo one another: `insert-law`, `remove-law`, as specs/Laws.antt states them. Over lists of
+-- slots first, then over 01's outcomes, fact by fact.
 -- Assumes nothing.
 use mathlib.Core.Path.{_≡_, refl, _∙_, sym, ap}
-use mathlib.Core.List.{List, [], _∷_, map, List·Memᴰ as In, List·Memᴰ·head, List·Memᴰ·tail, List·Memᴰ·not-nil, List·Memᴰ·cases-cons}
+use mathlib.Core.List.{List, [], _∷_, _++_, map, List·Memᴰ as In, List·Memᴰ·head, List·Memᴰ·tail, List·Memᴰ·not-nil, List·Memᴰ·cases-cons}
 use mathlib.Core.Logic.{inl, inr}
 use mathlib.Core.Bool.{or-true, Bool, true, false, cond, not, _||_}
 use Prim.Native.Nat.{ℕ, suc, _<_, _≤_}
 use native.Mathlib.Omega.{arith}
-use borrow.Author.Tests.{ltb-true, lt-ltb}
+use borrow.Author.Tests.{ltb-true, lt-ltb, not-true}
 use lib.Dec.{ltb}
 use lib.ListN.{length}
 use Rattle.names.specs.declared.Order.{Order}
 use Rattle.names.specs.declared.Order.the-variants.{Same}
 use Rattle.names.specs.Ordering.{Row, compareRows, isLess, isSame, _<ⁿ_, Rising, none, one, more}
-use Rattle.names.proofs.Laws.{tail-rising, yes-no, Tri, below as isBelow, level, above, triN, row-less, row-more, row-same, rising-Rising, and-0, and-1}
-use Rattle.slots.specs.Bytes.{Bytes, Octets, every}
+use Rattle.names.proofs.Laws.{tail-rising, Tri, below as isBelow, level, above, triN, row-less, row-more, row-same, rising-Rising}
+use Rattle.numbers.proofs.Bools.{yes-no, and-0, and-1}
+use Rattle.numbers.specs.Bytes.{Bytes, Octets}
+use Rattle.numbers.specs.Lists.{every}
 use Rattle.slots.specs.Slots.{Slot, nameOf, slotOf, keepsSlot, isSlot}
 use Rattle.slots.proofs.RoundTrip.{kept, decoded-slot}
-use Rattle.pages.specs.Answers.{Outcome, ask, refuse, accept, write}
+use Rattle.answers.specs.Answers.{Outcome, Test, _else_, accept, write, outcome}
 use Rattle.pages.specs.Pages.{maxSlots, slotsOf, nameIn, namesOf, pieces, keepsLayout, rises}
 use Rattle.pages.specs.Places.{has}
-use Rattle.pages.specs.declared.Answer.the-variants.{Accepted}
-use Rattle.pages.specs.declared.Refusal.the-variants.{BadLayout, NotRising, Present, Absent, Full}
-use Rattle.pages.proofs.Parts.{length-slots}
-use Rattle.pages.proofs.Outcomes.{no-answer, write-accepted, page-again}
+use Rattle.answers.specs.declared.Answer.the-variants.{Accepted}
+use Rattle.answers.specs.declared.Refusal.the-variants.{Present, Absent, Full}
+use Rattle.pages.proofs.SlotBySlot.{length-slots}
+use Rattle.answers.proofs.Outcomes.{write-accepted}
+use Rattle.pages.proofs.PageOutcomes.{page-again}
+use Rattle.answers.proofs.Refusals.{Passed, accepted-passes}
 use Rattle.pages.proofs.RoundTrip.{laid, slots-back, page-slots, written-page}
-use Rattle.edits.specs.Edits.{placed, without, askEdit, insertion, removal}
+use Rattle.edits.specs.Edits.{placed, without, editTests, insertOutcome, removeOutcome}
+use Rattle.edits.specs.Laws.{IsPage, givesBack, InsertLaw, RemoveLaw}
 use Rattle.edits.proofs.Placed.{Over, over-none, over-more, rising-over, placed-over, without-over}
-use Rattle.edits.proofs.Edited.{Passed}
 
 -- ── lists of slots ──
 
-absent-tail : (x : Slot) (y : Slot) (l : List Slot) (o : Order) → compareRows (y .name) (x .name) ≡ o → has (x .name) (map nameIn (y ∷ l)) ≡ false → (isSame o ≡ false) × (has (x .name) (map nameIn l) ≡ false)
+absent-tail :
+    (x y : Slot) (l : List Slot) (o : Order) → compareRows (y .name) (x .name) ≡ o → has (x .name) (map nameIn (y ∷ l)) ≡ false →
+    (isSame o ≡ false) × (has (x .name) (map nameIn l) ≡ false)
 absent-tail x y l o q e = by (isSame o) (sym (ap (λ (p : Order). isSame p || has (x .name) (map nameIn l)) q) ∙ e)
   where
     by : (b : Bool) → b || has (x .name) (map nameIn l) ≡ false → (b ≡ false) × (has (x .name) (map nameIn l) ≡ false)
@@ -55,7 +61,9 @@ rising-placed : (x : Slot) (l : List Slot) → Rising (map nameIn l) → has (x 
 rising-placed x [] r e = one
 rising-placed x (y ∷ l) r e = by (compareRows (y .name) (x .name)) (triN (y .name) (x .name)) refl (rising-placed x l (tail-rising r))
   where
-    by : (o : Order) → Tri _<ⁿ_ (y .name) (x .name) o → compareRows (y .name) (x .name) ≡ o → (has (x .name) (map nameIn l) ≡ false → Rising (map nameIn (placed x l))) → Rising (map nameIn (placed x (y ∷ l)))
+    by :
+        (o : Order) → Tri _<ⁿ_ (y .name) (x .name) o → compareRows (y .name) (x .name) ≡ o →
+        (has (x .name) (map nameIn l) ≡ false → Rising (map nameIn (placed x l))) → Rising (map nameIn (placed x (y ∷ l)))
     by o (isBelow h) q f = rw (row-more h) (cons-rising (over-placed x l h (rising-over r)) (f (absent-tail x y l o q e .1)))
     by o (level h) q f = yes-no refl (absent-tail x y l o q e .0)
     by o (above h) q f = rw (row-less h) (more h r)
@@ -167,97 +175,90 @@ placed-without x (y ∷ l) r m = elim (List·Memᴰ·cases-cons m) [
 
 -- ── what an accepted outcome says ──
 
-module _ (page slot : Bytes) (next : Outcome) (n : ℕ) where
-  edit-passed : askEdit page slot refuse next .answer ≡ Accepted n → Passed page slot × (next .answer ≡ Accepted n)
-  edit-passed e = go (keepsLayout page) (keepsSlot slot) (rises page) refl refl refl e
-    where
-      go : (a b c : Bool) → keepsLayout page ≡ a → keepsSlot slot ≡ b → rises page ≡ c → ask a (refuse BadLayout) (ask b (refuse BadLayout) (ask c (refuse NotRising) next)) .answer ≡ Accepted n → Passed page slot × (next .answer ≡ Accepted n)
-      go true true true x y z e = (record { layout = x; slot-layout = y; rising = z }, e)
-      go true true false x y z e = no-answer NotRising n e
-      go true false c x y z e = no-answer BadLayout n e
-      go false b c x y z e = no-answer BadLayout n e
-
 -- an accepted insert
 pub record Inserts (page slot : Bytes) (room : ℕ) : Type 0 where
-  pub passed : Passed page slot
+  pub layout : keepsLayout page ≡ true
+  pub slot-layout : keepsSlot slot ≡ true
+  pub order : rises page ≡ true
   pub absent : has (nameOf slot) (namesOf page) ≡ false
   pub spare : length (slotsOf page) < maxSlots
-  pub outcome : insertion page slot room ≡ accept (pieces (placed (slotOf slot) (slotsOf page)))
-
-pub inserts : (page slot : Bytes) (room n : ℕ) → insertion page slot room .answer ≡ Accepted n → Inserts page slot room
-unfolding insertion
-inserts page slot room n e =
-    let l = pieces (placed (slotOf slot) (slotsOf page)) in
-    let p = edit-passed page slot (ask (not (has (nameOf slot) (namesOf page))) (refuse Present) (ask (ltb (length (slotsOf page)) maxSlots) (refuse Full) (write l room))) n e in
-    go (has (nameOf slot) (namesOf page)) (ltb (length (slotsOf page)) maxSlots) refl refl (p .0) (p .1)
-  where
-    go : (a b : Bool) → has (nameOf slot) (namesOf page) ≡ a → ltb (length (slotsOf page)) maxSlots ≡ b → Passed page slot → ask (not a) (refuse Present) (ask b (refuse Full) (write (pieces (placed (slotOf slot) (slotsOf page))) room)) .answer ≡ Accepted n → Inserts page slot room
-    go true b x y v e = no-answer Present n e
-    go false false x y v e = no-answer Full n e
-    go false true x y v e =
-        let w = write-accepted (pieces (placed (slotOf slot) (slotsOf page))) room n e in
-        record {
-          passed = v;
-          absent = x;
-          spare = ltb-true (length (slotsOf page)) maxSlots y;
-          outcome = rw (v .layout, v .slot-layout, v .rising, x, y) w;
-        }
+  pub outcome : insertOutcome page slot room ≡ accept (pieces (placed (slotOf slot) (slotsOf page)))
 
 -- an accepted remove
 pub record Removes (page slot : Bytes) (room : ℕ) : Type 0 where
-  pub passed : Passed page slot
+  pub layout : keepsLayout page ≡ true
+  pub slot-layout : keepsSlot slot ≡ true
+  pub order : rises page ≡ true
   pub present : has (nameOf slot) (namesOf page) ≡ true
-  pub outcome : removal page slot room ≡ accept (pieces (without (nameOf slot) (slotsOf page)))
+  pub outcome : removeOutcome page slot room ≡ accept (pieces (without (nameOf slot) (slotsOf page)))
 
-pub removes : (page slot : Bytes) (room n : ℕ) → removal page slot room .answer ≡ Accepted n → Removes page slot room
-unfolding removal
-removes page slot room n e =
-    let l = pieces (without (nameOf slot) (slotsOf page)) in
-    let p = edit-passed page slot (ask (has (nameOf slot) (namesOf page)) (refuse Absent) (write l room)) n e in
-    go (has (nameOf slot) (namesOf page)) refl (p .0) (p .1)
-  where
-    go : (a : Bool) → has (nameOf slot) (namesOf page) ≡ a → Passed page slot → ask a (refuse Absent) (write (pieces (without (nameOf slot) (slotsOf page))) room) .answer ≡ Accepted n → Removes page slot room
-    go false x v e = no-answer Absent n e
-    go true x v e =
-        let w = write-accepted (pieces (without (nameOf slot) (slotsOf page))) room n e in
-        record {
-          passed = v;
-          present = x;
-          outcome = rw (v .layout, v .slot-layout, v .rising, x) w;
-        }
+-- past all tests, what is written
+written : (tests : List Test) (l : List Bytes) (room n : ℕ) → outcome tests l room .answer ≡ Accepted n → Passed tests × (outcome tests l room ≡ accept l)
+written tests l room n e =
+    let a = accepted-passes (write l room) n tests e in
+    (a .0, a .1 ∙ write-accepted l room n (sym (ap (λ (o : Outcome). o .answer) (a .1)) ∙ e))
+
+module _ (page slot : Bytes) where
+  abbrev absence : List Test
+  absence = not (has (nameOf slot) (namesOf page)) else Present ∷ ltb (length (slotsOf page)) maxSlots else Full ∷ []
+
+  pub inserts : (room n : ℕ) → insertOutcome page slot room .answer ≡ Accepted n → Inserts page slot room
+  unfolding insertOutcome
+  inserts room n e = go (written (editTests page slot ++ absence) (pieces (placed (slotOf slot) (slotsOf page))) room n e)
+    where
+      go : Passed (editTests page slot ++ absence) × (insertOutcome page slot room ≡ accept (pieces (placed (slotOf slot) (slotsOf page)))) → Inserts page slot room
+      go ((layout, (slot-layout, (order, (absent, (spare, _))))), done) = record {
+        layout = layout;
+        slot-layout = slot-layout;
+        order = order;
+        absent = not-true (has (nameOf slot) (namesOf page)) absent;
+        spare = ltb-true (length (slotsOf page)) maxSlots spare;
+        outcome = done;
+      }
+
+  abbrev presence : List Test
+  presence = has (nameOf slot) (namesOf page) else Absent ∷ []
+
+  pub removes : (room n : ℕ) → removeOutcome page slot room .answer ≡ Accepted n → Removes page slot room
+  unfolding removeOutcome
+  removes room n e = go (written (editTests page slot ++ presence) (pieces (without (nameOf slot) (slotsOf page))) room n e)
+    where
+      go : Passed (editTests page slot ++ presence) × (removeOutcome page slot room ≡ accept (pieces (without (nameOf slot) (slotsOf page)))) → Removes page slot room
+      go ((layout, (slot-layout, (order, (present, _)))), done) = record { layout = layout; slot-layout = slot-layout; order = order; present = present; outcome = done }
 
 -- ── a page stays a page ──
 
 module _ (page slot : Bytes) (po : Octets page) (so : Octets slot) (room n : ℕ) where
   -- what is written are slots
-  pub insert-good : insertion page slot room .answer ≡ Accepted n → every isSlot (placed (slotOf slot) (slotsOf page)) ≡ true
+  pub insert-good : insertOutcome page slot room .answer ≡ Accepted n → every isSlot (placed (slotOf slot) (slotsOf page)) ≡ true
   insert-good e =
-      let v = inserts page slot room n e .passed in
+      let v = inserts page slot room n e in
       every-placed isSlot (slotOf slot) (slotsOf page) (decoded-slot slot so (kept slot (v .slot-layout))) (page-slots page po (v .layout))
 
-  pub inserted-slots : insertion page slot room .answer ≡ Accepted n → slotsOf (insertion page slot room .bytes) ≡ placed (slotOf slot) (slotsOf page)
+  pub inserted-slots : insertOutcome page slot room .answer ≡ Accepted n → slotsOf (insertOutcome page slot room .bytes) ≡ placed (slotOf slot) (slotsOf page)
   inserted-slots e = ap (λ (o : Outcome). slotsOf (o .bytes)) (inserts page slot room n e .outcome) ∙ slots-back (placed (slotOf slot) (slotsOf page)) (insert-good e)
 
-  pub insert-page : insertion page slot room .answer ≡ Accepted n → (keepsLayout (insertion page slot room .bytes) ≡ true) × (rises (insertion page slot room .bytes) ≡ true)
+  pub insert-page : insertOutcome page slot room .answer ≡ Accepted n → IsPage (insertOutcome page slot room .bytes)
   insert-page e =
       let i = inserts page slot room n e in
       let x = slotOf slot in
-      let p = written-page (placed x (slotsOf page)) (insert-good e) (omega (arith, length-placed x (slotsOf page), i .spare)) (rising-placed x (slotsOf page) (rising-Rising (namesOf page) (i .passed .rising)) (i .absent)) in
+      let r = rising-placed x (slotsOf page) (rising-Rising (namesOf page) (i .order)) (i .absent) in
+      let p = written-page (placed x (slotsOf page)) (insert-good e) (omega (arith, length-placed x (slotsOf page), i .spare)) r in
       rw (i .outcome) p
 
-  pub remove-good : removal page slot room .answer ≡ Accepted n → every isSlot (without (nameOf slot) (slotsOf page)) ≡ true
-  remove-good e = every-without isSlot (nameOf slot) (slotsOf page) (page-slots page po (removes page slot room n e .passed .layout))
+  pub remove-good : removeOutcome page slot room .answer ≡ Accepted n → every isSlot (without (nameOf slot) (slotsOf page)) ≡ true
+  remove-good e = every-without isSlot (nameOf slot) (slotsOf page) (page-slots page po (removes page slot room n e .layout))
 
-  pub removed-slots : removal page slot room .answer ≡ Accepted n → slotsOf (removal page slot room .bytes) ≡ without (nameOf slot) (slotsOf page)
+  pub removed-slots : removeOutcome page slot room .answer ≡ Accepted n → slotsOf (removeOutcome page slot room .bytes) ≡ without (nameOf slot) (slotsOf page)
   removed-slots e = ap (λ (o : Outcome). slotsOf (o .bytes)) (removes page slot room n e .outcome) ∙ slots-back (without (nameOf slot) (slotsOf page)) (remove-good e)
 
-  pub remove-page : removal page slot room .answer ≡ Accepted n → (keepsLayout (removal page slot room .bytes) ≡ true) × (rises (removal page slot room .bytes) ≡ true)
+  pub remove-page : removeOutcome page slot room .answer ≡ Accepted n → IsPage (removeOutcome page slot room .bytes)
   remove-page e =
       let i = removes page slot room n e in
-      let v = i .passed in
       let a = nameOf slot in
-      let f = laid page (v .layout) .few in
-      let p = written-page (without a (slotsOf page)) (remove-good e) (omega (arith, length-without a (slotsOf page), length-slots page)) (rising-without a (slotsOf page) (rising-Rising (namesOf page) (v .rising))) in
+      let f = laid page (i .layout) .few in
+      let r = rising-without a (slotsOf page) (rising-Rising (namesOf page) (i .order)) in
+      let p = written-page (without a (slotsOf page)) (remove-good e) (omega (arith, length-without a (slotsOf page), length-slots page)) r in
       rw (i .outcome) p
 
 -- ── insert and remove undo one another ──
@@ -279,30 +280,44 @@ has-without a (y ∷ l) = by (isSame (compareRows (y .name) a)) refl (has-withou
     by false q f = rw q f
 
 module _ (page slot : Bytes) (po : Octets page) (so : Octets slot) (room n room' : ℕ) (h : length page ≤ room') where
-  pub insert-remove : insertion page slot room .answer ≡ Accepted n → removal (insertion page slot room .bytes) slot room' ≡ record { answer = Accepted (length (slotsOf page)); bytes = page }
-  unfolding removal
+  pub insert-remove : insertOutcome page slot room .answer ≡ Accepted n → removeOutcome (insertOutcome page slot room .bytes) slot room' ≡ givesBack page
+  unfolding removeOutcome
   insert-remove e =
       let i = inserts page slot room n e in
-      let v = i .passed in
       let x = slotOf slot in
       let p = insert-page page slot po so room n e in
       let b = inserted-slots page slot po so room n e in
-      let f : has (nameOf slot) (namesOf (insertion page slot room .bytes)) ≡ true = ap (λ (q : List Slot). has (nameOf slot) (map nameIn q)) b ∙ has-placed x (slotsOf page) in
-      let w : without (nameOf slot) (slotsOf (insertion page slot room .bytes)) ≡ slotsOf page = ap (without (nameOf slot)) b ∙ without-placed x (slotsOf page) (i .absent) in
-      rw (p .0, v .slot-layout, p .1, f, w) (page-again page po (v .layout) room' h)
+      let f : has (nameOf slot) (namesOf (insertOutcome page slot room .bytes)) ≡ true = ap (λ (q : List Slot). has (nameOf slot) (map nameIn q)) b ∙ has-placed x (slotsOf page) in
+      let w : without (nameOf slot) (slotsOf (insertOutcome page slot room .bytes)) ≡ slotsOf page = ap (without (nameOf slot)) b ∙ without-placed x (slotsOf page) (i .absent) in
+      rw (p .0, i .slot-layout, p .1, f, w) (page-again page po (i .layout) room' h)
 
   -- the slot is one of the page's: its line number too
-  pub remove-insert : In (slotOf slot) (slotsOf page) → removal page slot room .answer ≡ Accepted n → insertion (removal page slot room .bytes) slot room' ≡ record { answer = Accepted (length (slotsOf page)); bytes = page }
-  unfolding insertion
+  pub remove-insert : In (slotOf slot) (slotsOf page) → removeOutcome page slot room .answer ≡ Accepted n → insertOutcome (removeOutcome page slot room .bytes) slot room' ≡ givesBack page
+  unfolding insertOutcome
   remove-insert m e =
       let i = removes page slot room n e in
-      let v = i .passed in
       let x = slotOf slot in
       let l = without (nameOf slot) (slotsOf page) in
       let p = remove-page page slot po so room n e in
       let b = removed-slots page slot po so room n e in
-      let f : has (nameOf slot) (namesOf (removal page slot room .bytes)) ≡ false = ap (λ (q : List Slot). has (nameOf slot) (map nameIn q)) b ∙ has-without (nameOf slot) (slotsOf page) in
-      let u : placed x l ≡ slotsOf page = placed-without x (slotsOf page) (rising-Rising (namesOf page) (v .rising)) m in
-      let w : placed x (slotsOf (removal page slot room .bytes)) ≡ slotsOf page = ap (placed x) b ∙ u in
-      let c : length (slotsOf (removal page slot room .bytes)) < maxSlots = omega (arith, ap length b, length-placed x l, ap length u, length-slots page, laid page (v .layout) .few) in
-      rw (p .0, v .slot-layout, p .1, f, lt-ltb (length (slotsOf (removal page slot room .bytes))) maxSlots c, w) (page-again page po (v .layout) room' h)
+      let f : has (nameOf slot) (namesOf (removeOutcome page slot room .bytes)) ≡ false = ap (λ (q : List Slot). has (nameOf slot) (map nameIn q)) b ∙ has-without (nameOf slot) (slotsOf page) in
+      let u : placed x l ≡ slotsOf page = placed-without x (slotsOf page) (rising-Rising (namesOf page) (i .order)) m in
+      let w : placed x (slotsOf (removeOutcome page slot room .bytes)) ≡ slotsOf page = ap (placed x) b ∙ u in
+      let c : length (slotsOf (removeOutcome page slot room .bytes)) < maxSlots = omega (arith, ap length b, length-placed x l, ap length u, length-slots page, laid page (i .layout) .few) in
+      rw (p .0, i .slot-layout, p .1, f, lt-ltb (length (slotsOf (removeOutcome page slot room .bytes))) maxSlots c, w) (page-again page po (i .layout) room' h)
+
+-- ── what specs/Laws.antt states ──
+
+pub insert-law : InsertLaw
+insert-law page slot po so room n e = record {
+  is-page = insert-page page slot po so room n e;
+  slots = inserted-slots page slot po so room n e;
+  undone = λ room' h. insert-remove page slot po so room n room' h e;
+}
+
+pub remove-law : RemoveLaw
+remove-law page slot po so room n e = record {
+  is-page = remove-page page slot po so room n e;
+  slots = removed-slots page slot po so room n e;
+  undone = λ m room' h. remove-insert page slot po so room n room' h m e;
+}

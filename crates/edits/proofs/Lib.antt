@@ -1,5 +1,5 @@
 pub mod Placed
-pub mod Pieces
-pub mod Edited
+pub mod EditedBytes
+pub mod Outcomes
 pub mod Books
 pub mod Settled

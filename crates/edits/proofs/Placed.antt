@@ -9,7 +9,8 @@ use lib.ListN.{length, take, drop}
 use Rattle.names.specs.declared.Order.{Order}
 use Rattle.names.specs.declared.Order.the-variants.{Same}
 use Rattle.names.specs.Ordering.{Row, compareRows, isLess, isSame, _<ⁿ_, Rising, one, more}
-use Rattle.names.proofs.Laws.{tail-rising, yes-no, <ⁿ-trans, Tri, below as isBelow, level, above, triN, row-less, row-more, row-same}
+use Rattle.names.proofs.Laws.{tail-rising, <ⁿ-trans, Tri, below as isBelow, level, above, triN, row-less, row-more, row-same}
+use Rattle.numbers.proofs.Bools.{yes-no}
 use Rattle.slots.specs.Slots.{Slot}
 use Rattle.pages.specs.Pages.{nameIn}
 use Rattle.pages.specs.declared.Place.the-variants.{Here, Gap}
@@ -45,16 +46,28 @@ pub placed-over : (x : Slot) (l : List Slot) → Over (x .name) (map nameIn l) �
 placed-over x [] o = refl
 placed-over x (y ∷ l) (over-more h o) = rw (row-less h)
 
-pub placed-split : (x : Slot) (l : List Slot) → Rising (map nameIn l) → has (x .name) (map nameIn l) ≡ false → placed x l ≡ take (below (x .name) (map nameIn l)) l ++ (x ∷ drop (below (x .name) (map nameIn l)) l)
+-- the row with x before slot k, and the row without slot k
+abbrev withAt : Slot → ℕ → List Slot → List Slot
+withAt x k l = take k l ++ (x ∷ drop k l)
+
+abbrev withoutAt : ℕ → List Slot → List Slot
+withoutAt k l = take k l ++ drop (suc k) l
+
+pub placed-split : (x : Slot) (l : List Slot) → Rising (map nameIn l) → has (x .name) (map nameIn l) ≡ false → placed x l ≡ withAt x (below (x .name) (map nameIn l)) l
 placed-split x [] r e = refl
-placed-split x (y ∷ l) r e = go (compareRows (y .name) (x .name)) (triN (y .name) (x .name)) refl (placed-split x l (tail-rising r))
+placed-split x (y ∷ l) r e = go (compareRows (y .name) (x .name)) (triN (y .name) (x .name)) (placed-split x l (tail-rising r))
   where
-    go : (o : Order) → Tri _<ⁿ_ (y .name) (x .name) o → compareRows (y .name) (x .name) ≡ o → (has (x .name) (map nameIn l) ≡ false → placed x l ≡ take (below (x .name) (map nameIn l)) l ++ (x ∷ drop (below (x .name) (map nameIn l)) l)) → placed x (y ∷ l) ≡ take (below (x .name) (map nameIn (y ∷ l))) (y ∷ l) ++ (x ∷ drop (below (x .name) (map nameIn (y ∷ l))) (y ∷ l))
-    go _ (isBelow h) q f =
+    go :
+        (o : Order) → Tri _<ⁿ_ (y .name) (x .name) o →
+        (has (x .name) (map nameIn l) ≡ false → placed x l ≡ withAt x (below (x .name) (map nameIn l)) l) →
+        placed x (y ∷ l) ≡ withAt x (below (x .name) (map nameIn (y ∷ l))) (y ∷ l)
+    go _ (isBelow h) f =
         let n : has (x .name) (map nameIn l) ≡ false = sym (ap (λ (o : Order). isSame o || has (x .name) (map nameIn l)) (row-less h)) ∙ e in
         rw (row-more h, row-less h) (ap (λ (r : List Slot). y ∷ r) (f n))
-    go _ (level h) q f = yes-no (ap (λ (o : Order). isSame o || has (x .name) (map nameIn l)) (ap (λ (a : Row). compareRows a (x .name)) h ∙ row-same (x .name))) e
-    go _ (above h) q f =
+    go _ (level h) f =
+        let s : compareRows (y .name) (x .name) ≡ Same = ap (λ (a : Row). compareRows a (x .name)) h ∙ row-same (x .name) in
+        yes-no (ap (λ (o : Order). isSame o || has (x .name) (map nameIn l)) s) e
+    go _ (above h) f =
         let b = over-below (lift h (rising-over r)) in
         rw (row-less h, row-more h, b)
 
@@ -64,11 +77,14 @@ pub without-over : (a : Row) (l : List Slot) → Over a (map nameIn l) → witho
 without-over a [] o = refl
 without-over a (y ∷ l) (over-more h o) = rw (row-more h) (ap (λ (r : List Slot). y ∷ r) (without-over a l o))
 
-pub without-split : (a : Row) (l : List Slot) → Rising (map nameIn l) → has a (map nameIn l) ≡ true → without a l ≡ take (below a (map nameIn l)) l ++ drop (suc (below a (map nameIn l))) l
+pub without-split : (a : Row) (l : List Slot) → Rising (map nameIn l) → has a (map nameIn l) ≡ true → without a l ≡ withoutAt (below a (map nameIn l)) l
 without-split a [] r e = yes-no e refl
 without-split a (y ∷ l) r e = go (compareRows (y .name) a) (triN (y .name) a) (without-split a l (tail-rising r))
   where
-    go : (o : Order) → Tri _<ⁿ_ (y .name) a o → (has a (map nameIn l) ≡ true → without a l ≡ take (below a (map nameIn l)) l ++ drop (suc (below a (map nameIn l))) l) → without a (y ∷ l) ≡ take (below a (map nameIn (y ∷ l))) (y ∷ l) ++ drop (suc (below a (map nameIn (y ∷ l)))) (y ∷ l)
+    go :
+        (o : Order) → Tri _<ⁿ_ (y .name) a o →
+        (has a (map nameIn l) ≡ true → without a l ≡ withoutAt (below a (map nameIn l)) l) →
+        without a (y ∷ l) ≡ withoutAt (below a (map nameIn (y ∷ l))) (y ∷ l)
     go _ (isBelow h) f =
         let n : has a (map nameIn l) ≡ true = sym (ap (λ (o : Order). isSame o || has a (map nameIn l)) (row-less h)) ∙ e in
         rw (row-less h) (ap (λ (r : List Slot). y ∷ r) (f n))

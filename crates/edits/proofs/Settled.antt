@@ -2,7 +2,7 @@
 -- equal. `Learnt` is what a caller learns from the contract, of any arguments a, result r and parameters at exit s. Assumes nothing.
 use mathlib.Core.Path.{_≡_}
 use denote.Ref.{now}
-use Rattle.names.proofs.Settled.{one}
+use Rattle.numbers.proofs.Settled.{one}
 use Rattle.edits.proofs.insert.Reads as insert
 use Rattle.edits.proofs.remove.Reads as remove
 

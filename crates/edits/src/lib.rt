@@ -1,18 +1,19 @@
 // Insert and remove. Document 01, "Taking it back", last paragraph, and "What comes back"; the definitions are in specs/.
 ghost use mathlib.Core.Path.{_≡_};
+ghost use mathlib.Core.Bool.{true};
 ghost use mathlib.Core.List.{_++_};
 ghost use Prim.Native.Nat.{_+_, _*_, _≤_, _<_};
 ghost use lib.ListN.{length, take, drop};
-ghost use Rattle.slots.specs.Bytes.{put};
-ghost use Rattle.slots.specs.Slots.{slotSize, nameOf};
-ghost use Rattle.pages.specs.Pages.{namesOf};
+ghost use Rattle.numbers.specs.Bytes.{put};
+ghost use Rattle.slots.specs.Slots.{slotSize, nameOf, keepsSlot};
+ghost use Rattle.pages.specs.Pages.{namesOf, keepsLayout, rises};
 ghost use Rattle.pages.specs.Places.{placeOf};
-ghost use Rattle.pages.specs.Answers.{leaves};
-ghost use Rattle.edits.specs.Edits.{askEdit, insertion, removal};
-use pages::Answer;
+ghost use Rattle.answers.specs.Answers.{inOrder, leaves};
+ghost use Rattle.edits.specs.Edits.{editTests, insertOutcome, removeOutcome};
+use answers::Answer;
 use pages::PAGE;
 use pages::Place;
-use pages::Refusal;
+use answers::Refusal;
 use slots::SLOT;
 
 // The page with the slot before slot k, from the start of out. What is copied is copied once.
@@ -21,9 +22,9 @@ fn write_with(page: &[u8], slot: &[u8], k: usize, out: &mut [u8])
     ensures { λ _. ⌜ now (out .exit) ≡ put (now (out .entry)) 0 (take (slotSize * k) (now (page .entry)) ++ now (slot .entry) ++ drop (slotSize * k) (now (page .entry))) ⌝ }
 {
     let p = SLOT * k;
-    pages::copy(out, 0, &page[..p]);
-    pages::copy(out, p, slot);
-    pages::copy(out, p + slot.len(), &page[p..]);
+    numbers::copy(out, 0, &page[..p]);
+    numbers::copy(out, p, slot);
+    numbers::copy(out, p + slot.len(), &page[p..]);
 }
 
 // The page without slot k, from the start of out.
@@ -33,8 +34,8 @@ fn write_without(page: &[u8], k: usize, out: &mut [u8])
 {
     let p = SLOT * k;
     let q = p + SLOT;
-    pages::copy(out, 0, &page[..p]);
-    pages::copy(out, p, &page[q..]);
+    numbers::copy(out, 0, &page[..p]);
+    numbers::copy(out, p, &page[q..]);
 }
 
 // What stands before an edit: a refusal, or the place of the slot's name.
@@ -45,28 +46,26 @@ enum Checked {
 
 // 1 (page), 1 (slot), 2; else the place.
 fn check_edit(page: &[u8], slot: &[u8]) -> Checked
-    ensures { λ r. ⌜ r ≡ askEdit (now (page .entry)) (now (slot .entry)) Checked.Refused (Checked.Found (placeOf (nameOf (now (slot .entry))) (namesOf (now (page .entry))))) ⌝ }
+    ensures { λ r. ⌜ r ≡ inOrder (editTests (now (page .entry)) (now (slot .entry))) Checked.Refused (Checked.Found (placeOf (nameOf (now (slot .entry))) (namesOf (now (page .entry))))) ⌝ }
 {
-    if pages::page_ok(page) {
-        if pages::slot_ok(slot) {
-            if pages::page_rises(page) {
-                Checked::Found(pages::find(page, slot))
-            } else {
-                Checked::Refused(Refusal::NotRising)
-            }
-        } else {
-            Checked::Refused(Refusal::BadLayout)
-        }
-    } else {
-        Checked::Refused(Refusal::BadLayout)
+    if !pages::page_ok(page) {
+        return Checked::Refused(Refusal::BadLayout);
     }
+    if !pages::slot_ok(slot) {
+        return Checked::Refused(Refusal::BadLayout);
+    }
+    if !pages::page_rises(page) {
+        return Checked::Refused(Refusal::NotRising);
+    }
+    Checked::Found(pages::find(page, slot))
 }
 
-// 11, 8; else the page with the slot before slot k, its rising place.
+// 11, 8; else the page with the slot before slot k, its rising place. The tests before these have passed.
 fn insert_at(page: &[u8], slot: &[u8], k: usize, out: &mut [u8]) -> Answer
-    requires { ⌜ askEdit (now page) (now slot) Checked.Refused (Checked.Found (placeOf (nameOf (now slot)) (namesOf (now page)))) ≡ Checked.Found (Place.Gap k) ⌝ }
-    ensures { λ r. ⌜ r ≡ insertion (now (page .entry)) (now (slot .entry)) (length (now (out .entry))) .answer ⌝ }
-    ensures { λ r. ⌜ now (out .exit) ≡ leaves (insertion (now (page .entry)) (now (slot .entry)) (length (now (out .entry)))) (now (out .entry)) ⌝ }
+    requires { ⌜ (keepsLayout (now page) ≡ true) × (keepsSlot (now slot) ≡ true) × (rises (now page) ≡ true) ⌝ }
+    requires { ⌜ placeOf (nameOf (now slot)) (namesOf (now page)) ≡ Place.Gap k ⌝ }
+    ensures { λ r. ⌜ r ≡ insertOutcome (now (page .entry)) (now (slot .entry)) (length (now (out .entry))) .answer ⌝ }
+    ensures { λ r. ⌜ now (out .exit) ≡ leaves (insertOutcome (now (page .entry)) (now (slot .entry)) (length (now (out .entry)))) (now (out .entry)) ⌝ }
 {
     if PAGE <= page.len() {
         return Answer::Refused(Refusal::Full);
@@ -78,11 +77,12 @@ fn insert_at(page: &[u8], slot: &[u8], k: usize, out: &mut [u8]) -> Answer
     Answer::Accepted(page.len() / SLOT + 1)
 }
 
-// 8; else the page without slot k, which has the name.
+// 8; else the page without slot k, which has the name. The tests before this have passed.
 fn remove_at(page: &[u8], slot: &[u8], k: usize, out: &mut [u8]) -> Answer
-    requires { ⌜ askEdit (now page) (now slot) Checked.Refused (Checked.Found (placeOf (nameOf (now slot)) (namesOf (now page)))) ≡ Checked.Found (Place.Here k) ⌝ }
-    ensures { λ r. ⌜ r ≡ removal (now (page .entry)) (now (slot .entry)) (length (now (out .entry))) .answer ⌝ }
-    ensures { λ r. ⌜ now (out .exit) ≡ leaves (removal (now (page .entry)) (now (slot .entry)) (length (now (out .entry)))) (now (out .entry)) ⌝ }
+    requires { ⌜ (keepsLayout (now page) ≡ true) × (keepsSlot (now slot) ≡ true) × (rises (now page) ≡ true) ⌝ }
+    requires { ⌜ placeOf (nameOf (now slot)) (namesOf (now page)) ≡ Place.Here k ⌝ }
+    ensures { λ r. ⌜ r ≡ removeOutcome (now (page .entry)) (now (slot .entry)) (length (now (out .entry))) .answer ⌝ }
+    ensures { λ r. ⌜ now (out .exit) ≡ leaves (removeOutcome (now (page .entry)) (now (slot .entry)) (length (now (out .entry)))) (now (out .entry)) ⌝ }
 {
     if out.len() < page.len() - SLOT {
         return Answer::Refused(Refusal::Short);
@@ -93,30 +93,30 @@ fn remove_at(page: &[u8], slot: &[u8], k: usize, out: &mut [u8]) -> Answer
 
 // 1 (page), 1 (slot), 2, 9, 11, 8; else the page with the slot at its rising place.
 pub fn insert(page: &[u8], slot: &[u8], out: &mut [u8]) -> Answer
-    ensures { λ r. ⌜ r ≡ insertion (now (page .entry)) (now (slot .entry)) (length (now (out .entry))) .answer ⌝ }
-    ensures { λ r. ⌜ now (out .exit) ≡ leaves (insertion (now (page .entry)) (now (slot .entry)) (length (now (out .entry)))) (now (out .entry)) ⌝ }
+    ensures { λ r. ⌜ r ≡ insertOutcome (now (page .entry)) (now (slot .entry)) (length (now (out .entry))) .answer ⌝ }
+    ensures { λ r. ⌜ now (out .exit) ≡ leaves (insertOutcome (now (page .entry)) (now (slot .entry)) (length (now (out .entry)))) (now (out .entry)) ⌝ }
 {
-    let checked = check_edit(page, slot);
-    match checked {
-        Checked::Refused(r) => Answer::Refused(r),
-        Checked::Found(place) => match place {
-            Place::Here(_) => Answer::Refused(Refusal::Present),
-            Place::Gap(k) => insert_at(page, slot, k, out),
-        },
+    let place = match check_edit(page, slot) {
+        Checked::Refused(r) => return Answer::Refused(r),
+        Checked::Found(place) => place,
+    };
+    match place {
+        Place::Here(_) => Answer::Refused(Refusal::Present),
+        Place::Gap(k) => insert_at(page, slot, k, out),
     }
 }
 
 // 1, 1, 2, 10, 8; else the page without the slot of that name.
 pub fn remove(page: &[u8], slot: &[u8], out: &mut [u8]) -> Answer
-    ensures { λ r. ⌜ r ≡ removal (now (page .entry)) (now (slot .entry)) (length (now (out .entry))) .answer ⌝ }
-    ensures { λ r. ⌜ now (out .exit) ≡ leaves (removal (now (page .entry)) (now (slot .entry)) (length (now (out .entry)))) (now (out .entry)) ⌝ }
+    ensures { λ r. ⌜ r ≡ removeOutcome (now (page .entry)) (now (slot .entry)) (length (now (out .entry))) .answer ⌝ }
+    ensures { λ r. ⌜ now (out .exit) ≡ leaves (removeOutcome (now (page .entry)) (now (slot .entry)) (length (now (out .entry)))) (now (out .entry)) ⌝ }
 {
-    let checked = check_edit(page, slot);
-    match checked {
-        Checked::Refused(r) => Answer::Refused(r),
-        Checked::Found(place) => match place {
-            Place::Here(k) => remove_at(page, slot, k, out),
-            Place::Gap(_) => Answer::Refused(Refusal::Absent),
-        },
+    let place = match check_edit(page, slot) {
+        Checked::Refused(r) => return Answer::Refused(r),
+        Checked::Found(place) => place,
+    };
+    match place {
+        Place::Here(k) => remove_at(page, slot, k, out),
+        Place::Gap(_) => Answer::Refused(Refusal::Absent),
     }
 }

@@ -1,12 +1,4 @@
-pub mod Facts
-pub mod Routes
-pub mod Priority
-pub mod Comparing
-pub mod Walking
-pub mod Stepping
-pub mod Adding
-pub mod Encoded
-pub mod Turns
-pub mod Added
+pub mod LoopTurns
+pub mod AddOutcomes
+pub mod Laws
 pub mod Settled
-pub mod Example

@@ -2,7 +2,7 @@
 -- caller learns from the contract, of any arguments a, result r and parameters at exit s. Assumes nothing.
 use mathlib.Core.Path.{_≡_}
 use denote.Ref.{now}
-use Rattle.names.proofs.Settled.{one}
+use Rattle.numbers.proofs.Settled.{one}
 use Rattle.epochs.proofs.table_ok.Reads as table-ok
 use Rattle.epochs.proofs.check_table.Reads as check-table
 use Rattle.epochs.proofs.step_number.Reads as step-number
@@ -29,5 +29,7 @@ answer-settled κs a r s r' s' p q = one p q
 pub next-step-settled : (κs : _) (a : _) (r : _) (s : _) (r' : _) (s' : _) → next-step.Learnt κs a r s → next-step.Learnt κs a r' s' → r ≡ r'
 next-step-settled κs a r s r' s' p q = one p q
 
-pub add-settled : (κs : _) (a : _) (r : _) (s : _) (r' : _) (s' : _) → add.Learnt κs a r s → add.Learnt κs a r' s' → (r ≡ r') × (now (s .1 .1 .1 .0) ≡ now (s' .1 .1 .1 .0))
+pub add-settled :
+    (κs : _) (a : _) (r : _) (s : _) (r' : _) (s' : _) → add.Learnt κs a r s → add.Learnt κs a r' s' →
+    (r ≡ r') × (now (s .1 .1 .1 .0) ≡ now (s' .1 .1 .1 .0))
 add-settled κs a r s r' s' p q = (one (p .0) (q .0), one (p .1) (q .1))

@@ -1,24 +1,25 @@
 -- What the calls on an epoch table answer and write: document 01, "What comes back".
 use Prim.Native.Nat.{ℕ}
+use mathlib.Core.List.{List, [], _∷_, _++_}
 use mathlib.Core.Bool.{not}
 use lib.ListN.{length}
 use lib.Dec.{leb, ltb}
 use Rattle.names.specs.declared.Author.{Author}
-use Rattle.slots.specs.Bytes.{Bytes}
-use Rattle.pages.specs.declared.Refusal.the-variants.{NoAuthor, BadTable, NoEpoch, Listed, TableFull}
-use Rattle.pages.specs.declared.Answer.{Answer}
-use Rattle.pages.specs.declared.Answer.the-variants.{Accepted, Refused}
-use Rattle.pages.specs.Answers.{Outcome, ask, refuse, write}
-use Rattle.epochs.specs.declared.Step.{Step}
-use Rattle.epochs.specs.declared.Step.the-variants.{Stay, Up, Down}
+use Rattle.numbers.specs.Bytes.{Bytes}
+use Rattle.answers.specs.declared.Refusal.the-variants.{NoAuthor, BadTable, NoEpoch, Listed, TableFull}
+use Rattle.answers.specs.declared.Answer.{Answer}
+use Rattle.answers.specs.declared.Answer.the-variants.{Accepted, Refused}
+use Rattle.answers.specs.Answers.{Test, _else_, inOrder, check, Outcome, outcome}
+use Rattle.epoch_tree.specs.declared.Step.{Step}
+use Rattle.epoch_tree.specs.declared.Step.the-variants.{Stay, Up, Down}
 use Rattle.epochs.specs.declared.Next.{Next}
 use Rattle.epochs.specs.declared.Next.the-variants as next
-use Rattle.epochs.specs.Tables.{Entry, maxEntries, entriesOf, entryPieces, listed, keepsTable, added}
-use Rattle.epochs.specs.Tree.{nextStep}
+use Rattle.epoch_tree.specs.Tables.{Entry, maxEntries, entriesOf, entryPieces, listed, keepsTable, added}
+use Rattle.epoch_tree.specs.Tree.{nextStep}
 
 -- "13: epoch table breaks its layout"; else the count of its entries
 unfoldable pub checkTable : Bytes → Answer
-checkTable s = ask (keepsTable s) (Refused BadTable) (Accepted (length (entriesOf s)))
+checkTable s = check (keepsTable s else BadTable ∷ []) (length (entriesOf s))
 
 -- ── the next step ──
 
@@ -47,12 +48,13 @@ abbrev pub answerOf : Next → Answer
 answerOf (next.Take s) = Accepted 0
 answerOf (next.Refused r) = Refused r
 
+-- What both calls below ask first: 13, and 14, "current or parent index not in the table".
+abbrev pub epochTests : Bytes → ℕ → List Test
+epochTests s i = keepsTable s else BadTable ∷ ltb i (length (entriesOf s)) else NoEpoch ∷ []
+
 -- "next step 13, 14"
-unfoldable pub stepping : Bytes → ℕ → Next
-stepping s current =
-    ask (keepsTable s) (next.Refused BadTable)
-    (ask (ltb current (length (entriesOf s))) (next.Refused NoEpoch)
-    (next.Take (nextStep (entriesOf s) current)))
+unfoldable pub nextStepOutcome : Bytes → ℕ → Next
+nextStepOutcome s current = inOrder (epochTests s current) next.Refused (next.Take (nextStep (entriesOf s) current))
 
 -- ── adding ──
 
@@ -60,12 +62,14 @@ stepping s current =
 abbrev pub entryBy : Author → ℕ → Entry
 entryBy author parent = record { node = author .node; sequence = author .sequence; parent = parent }
 
+-- "4: author node is 0", "17: epoch to add already listed", "18: epoch table has 32 entries"
+abbrev pub newTests : List Entry → Entry → List Test
+newTests t e = leb 1 (e .node) else NoAuthor ∷ not (listed e t) else Listed ∷ ltb (length t) maxEntries else TableFull ∷ []
+
 -- "add epoch 13, 14, 4, 17, 18, 8"
-unfoldable pub adding : Bytes → ℕ → Author → ℕ → Outcome
-adding s parent author room =
-    ask (keepsTable s) (refuse BadTable)
-    (ask (ltb parent (length (entriesOf s))) (refuse NoEpoch)
-    (ask (leb 1 (author .node)) (refuse NoAuthor)
-    (ask (not (listed (entryBy author parent) (entriesOf s))) (refuse Listed)
-    (ask (ltb (length (entriesOf s)) maxEntries) (refuse TableFull)
-    (write (entryPieces (added (entriesOf s) (entryBy author parent))) room)))))
+abbrev pub addTests : Bytes → Entry → List Test
+addTests s e = epochTests s (e .parent) ++ newTests (entriesOf s) e
+
+-- "Adding an epoch appends one entry in a second table."
+unfoldable pub addOutcome : Bytes → ℕ → Author → ℕ → Outcome
+addOutcome s parent author room = outcome (addTests s (entryBy author parent)) (entryPieces (added (entriesOf s) (entryBy author parent))) room

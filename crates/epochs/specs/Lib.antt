@@ -1,4 +1,2 @@
-pub mod Tables
-pub mod Tree
-pub mod Case
 pub mod Calls
+pub mod Laws

@@ -1,18 +1,20 @@
 // Epochs: the table and its check, the tree, the target, the next step and adding an epoch. Document 01, "Pages, logs, epochs",
-// "Epoch tree" and "What comes back"; the definitions are in specs/. An epoch is the index of its entry in the table.
+// "Epoch tree" and "What comes back". What a table and its tree are is defined in epoch_tree/specs, what the calls give in specs/. An
+// epoch is the index of its entry in the table.
 ghost use mathlib.Core.Path.{_≡_};
 ghost use mathlib.Core.Bool.{true};
-ghost use Prim.Native.Nat.{_*_, _+_, _/_, _≤_, _<_};
+ghost use Prim.Native.Nat.{_+_, _/_, _≤_, _<_};
 ghost use lib.ListN.{length, take, drop};
-ghost use Rattle.slots.specs.Bytes.{put};
-ghost use Rattle.pages.specs.Answers.{leaves};
-ghost use Rattle.epochs.specs.Tables.{entrySize, entriesOf, entryAt, entryBytes, isFirst, samePair, listed, keepsEntry, keepsFrom, keepsTable};
-ghost use Rattle.epochs.specs.Tree.{parentOf, compareKeys, compareEpochs, greater, target as targetOf, stepTo};
-ghost use Rattle.epochs.specs.Calls.{checkTable, stepNumber, stepIndex, numberIn, indexIn, answerOf, stepping, entryBy, adding};
+ghost use Rattle.numbers.specs.Bytes.{put};
+ghost use Rattle.answers.specs.Answers.{leaves};
+ghost use Rattle.epoch_tree.specs.Tables.{entrySize, entriesOf, entryAt, entryBytes, isFirst, samePair, listed, keepsEntry, keepsFrom, keepsTable};
+ghost use Rattle.epoch_tree.specs.Tree.{parentOf, compareKeys, compareEpochs, greater, target as targetOf, stepTo};
+ghost use Rattle.epochs.specs.Calls.{checkTable, stepNumber, stepIndex, numberIn, indexIn, answerOf, nextStepOutcome, entryBy, addOutcome};
+use epoch_tree::Step;
 use names::Author;
 use names::Order;
-use pages::Answer;
-use pages::Refusal;
+use answers::Answer;
+use answers::Refusal;
 
 // "entries of 8 bytes: node u16, sequence u32, parent index u16": the entry's size, and the places in it.
 pub const ENTRY: usize = 8;
@@ -32,21 +34,21 @@ fn node_of(table: &[u8], k: usize) -> u16
     requires { ⌜ k < length (now table) / entrySize ⌝ }
     ensures { λ r. ⌜ r ≡ entryAt (entriesOf (now (table .entry))) k .node ⌝ }
 {
-    slots::read_u16(table, ENTRY * k)
+    numbers::read_u16(table, ENTRY * k)
 }
 
 fn sequence_of(table: &[u8], k: usize) -> u32
     requires { ⌜ k < length (now table) / entrySize ⌝ }
     ensures { λ r. ⌜ r ≡ entryAt (entriesOf (now (table .entry))) k .sequence ⌝ }
 {
-    slots::read_u32(table, ENTRY * k + SEQUENCE)
+    numbers::read_u32(table, ENTRY * k + SEQUENCE)
 }
 
 fn parent_of(table: &[u8], k: usize) -> usize
     requires { ⌜ k < length (now table) / entrySize ⌝ }
     ensures { λ r. ⌜ r ≡ parentOf (entriesOf (now (table .entry))) k ⌝ }
 {
-    slots::read_u16(table, ENTRY * k + PARENT) as usize
+    numbers::read_u16(table, ENTRY * k + PARENT) as usize
 }
 
 // ── the layout ──
@@ -70,10 +72,10 @@ fn pair_is(table: &[u8], k: usize, author: Author) -> bool
     requires { ⌜ k < length (now table) / entrySize ⌝ }
     ensures { λ r. ⌜ r ≡ samePair (entryBy author 0) (entryAt (entriesOf (now (table .entry))) k) ⌝ }
 {
-    if author.node == node_of(table, k) {
-        return author.sequence == sequence_of(table, k);
+    if author.node != node_of(table, k) {
+        return false;
     }
-    false
+    author.sequence == sequence_of(table, k)
 }
 
 // One of the first n entries has that (node, sequence).
@@ -119,11 +121,10 @@ fn others_ok(table: &[u8]) -> bool
     let n = table.len() / ENTRY;
     let mut i: usize = 1;
     while i < n {
-        if entry_ok(table, i) {
-            i += 1;
-        } else {
+        if !entry_ok(table, i) {
             return false;
         }
+        i += 1;
     }
     true
 }
@@ -141,20 +142,20 @@ pub fn table_ok(table: &[u8]) -> bool
     if TABLE < table.len() {
         return false;
     }
-    if first_ok(table) {
-        return others_ok(table);
+    if !first_ok(table) {
+        return false;
     }
-    false
+    others_ok(table)
 }
 
 // 13; else the count of the table's entries.
 pub fn check_table(table: &[u8]) -> Answer
     ensures { λ r. ⌜ r ≡ checkTable (now (table .entry)) ⌝ }
 {
-    if table_ok(table) {
-        return Answer::Accepted(table.len() / ENTRY);
+    if !table_ok(table) {
+        return Answer::Refused(Refusal::BadTable);
     }
-    Answer::Refused(Refusal::BadTable)
+    Answer::Accepted(table.len() / ENTRY)
 }
 
 // ── the comparison ──
@@ -226,13 +227,6 @@ fn target(table: &[u8]) -> usize
 }
 
 // ── the next step ──
-
-// "One question gives the next step from a current index: stay, up to the parent, or down to a child, given by index."
-pub enum Step {
-    Stay,
-    Up(usize),
-    Down(usize),
-}
 
 // What comes back of a question for the next step.
 pub enum Next {
@@ -312,15 +306,15 @@ fn step_to(table: &[u8], d: usize, c: usize) -> Step
 
 // 13, 14; else the next step.
 pub fn next_step(table: &[u8], current: usize) -> Next
-    ensures { λ r. ⌜ r ≡ stepping (now (table .entry)) current ⌝ }
+    ensures { λ r. ⌜ r ≡ nextStepOutcome (now (table .entry)) current ⌝ }
 {
-    if table_ok(table) {
-        if current < table.len() / ENTRY {
-            return Next::Take(step_to(table, target(table), current));
-        }
+    if !table_ok(table) {
+        return Next::Refused(Refusal::BadTable);
+    }
+    if table.len() / ENTRY <= current {
         return Next::Refused(Refusal::NoEpoch);
     }
-    Next::Refused(Refusal::BadTable)
+    Next::Take(step_to(table, target(table), current))
 }
 
 // ── adding ──
@@ -330,21 +324,29 @@ fn write_entry(out: &mut [u8], p: usize, author: Author, parent: usize)
     requires { ⌜ (p + entrySize ≤ length (now out)) × (parent < 65536) ⌝ }
     ensures { λ _. ⌜ now (out .exit) ≡ put (now (out .entry)) p (entryBytes (entryBy author parent)) ⌝ }
 {
-    slots::write_u32(
+    numbers::write_u32(
         out,
         p,
         (author.node as u32) * 65536 + author.sequence / 65536,
     );
-    slots::write_u32(out, p + 4, author.sequence % 65536 * 65536 + parent as u32);
+    numbers::write_u32(out, p + 4, author.sequence % 65536 * 65536 + parent as u32);
 }
 
-// 17, 18, 8; else the table with one more entry.
-fn add_under(table: &[u8], parent: usize, author: Author, out: &mut [u8]) -> Answer
-    requires { ⌜ (keepsTable (now table) ≡ true) × (parent < length (now table) / entrySize) × (1 ≤ author .node) ⌝ }
-    ensures { λ r. ⌜ r ≡ adding (now (table .entry)) parent author (length (now (out .entry))) .answer ⌝ }
-    ensures { λ r. ⌜ now (out .exit) ≡ leaves (adding (now (table .entry)) parent author (length (now (out .entry)))) (now (out .entry)) ⌝ }
+// 13, 14, 4, 17, 18, 8; else the table with the author's epoch under the parent.
+pub fn add(table: &[u8], parent: usize, author: Author, out: &mut [u8]) -> Answer
+    ensures { λ r. ⌜ r ≡ addOutcome (now (table .entry)) parent author (length (now (out .entry))) .answer ⌝ }
+    ensures { λ r. ⌜ now (out .exit) ≡ leaves (addOutcome (now (table .entry)) parent author (length (now (out .entry)))) (now (out .entry)) ⌝ }
 {
+    if !table_ok(table) {
+        return Answer::Refused(Refusal::BadTable);
+    }
     let n = table.len() / ENTRY;
+    if n <= parent {
+        return Answer::Refused(Refusal::NoEpoch);
+    }
+    if author.node < 1 {
+        return Answer::Refused(Refusal::NoAuthor);
+    }
     if is_listed(table, n, author) {
         return Answer::Refused(Refusal::Listed);
     }
@@ -354,24 +356,7 @@ fn add_under(table: &[u8], parent: usize, author: Author, out: &mut [u8]) -> Ans
     if out.len() < table.len() + ENTRY {
         return Answer::Refused(Refusal::Short);
     }
-    pages::copy(out, 0, table);
+    numbers::copy(out, 0, table);
     write_entry(out, table.len(), author, parent);
     Answer::Accepted(n + 1)
-}
-
-// 13, 14, 4, 17, 18, 8; else the table with the author's epoch under the parent.
-pub fn add(table: &[u8], parent: usize, author: Author, out: &mut [u8]) -> Answer
-    ensures { λ r. ⌜ r ≡ adding (now (table .entry)) parent author (length (now (out .entry))) .answer ⌝ }
-    ensures { λ r. ⌜ now (out .exit) ≡ leaves (adding (now (table .entry)) parent author (length (now (out .entry)))) (now (out .entry)) ⌝ }
-{
-    if table_ok(table) {
-        if table.len() / ENTRY <= parent {
-            return Answer::Refused(Refusal::NoEpoch);
-        }
-        if author.node < 1 {
-            return Answer::Refused(Refusal::NoAuthor);
-        }
-        return add_under(table, parent, author, out);
-    }
-    Answer::Refused(Refusal::BadTable)
 }

@@ -1,7 +1,7 @@
 -- The count of every answer is far below 2³², so that it can be packed: `check-page-count` and the others, one for each call.
 -- Assumes nothing.
 use mathlib.Core.Path.{_≡_, refl}
-use mathlib.Core.List.{List, map, flatten}
+use mathlib.Core.List.{List, [], _∷_, _++_, map, flatten}
 use mathlib.Core.Bool.{Bool, true, false, cond, not, _&&_}
 use mathlib.Core.Option.{Option, none, some}
 use Prim.Native.Nat.{ℕ, suc, _/_, _<_, _≤_}
@@ -12,39 +12,41 @@ use lib.ListN.{length, drop, length-map}
 use Rattle.names.specs.declared.Author.{Author}
 use Rattle.names.specs.Ordering.{Row, rising}
 use Rattle.names.specs.Names.{fits}
-use Rattle.renaming.specs.Renaming.{rename, takeBack}
-use Rattle.names.proofs.Laws.{and-0, and-1}
-use Rattle.slots.specs.Bytes.{Bytes, every}
+use Rattle.name_renames.specs.Renaming.{rename, takeBack}
+use Rattle.numbers.proofs.Bools.{and-0, and-1}
+use Rattle.numbers.specs.Bytes.{Bytes}
+use Rattle.numbers.specs.Lists.{every}
 use Rattle.slots.specs.Slots.{Slot, slotSize, slotBytes, nameOf, slotOf, keepsSlot}
-use Rattle.pages.specs.declared.Answer.{Answer}
-use Rattle.pages.specs.declared.Answer.the-variants.{Accepted, Refused}
-use Rattle.pages.specs.declared.Refusal.{Refusal}
-use Rattle.pages.specs.declared.Refusal.the-variants.{BadLayout, NotRising, BadLog, NoAuthor, NotFresh, TooDeep, NotRisingBack, Short, Present, Absent, Full, NoNewName, BadTable, NoEpoch, Malformed, NoGap, Listed, TableFull}
-use Rattle.pages.specs.Answers.{Outcome, countOf, ask, refuse, accept, write}
+use Rattle.answers.specs.declared.Answer.{Answer}
+use Rattle.answers.specs.declared.Answer.the-variants.{Accepted, Refused}
+use Rattle.answers.specs.declared.Refusal.{Refusal}
+use Rattle.answers.specs.declared.Refusal.the-variants.{BadLayout, NotRising, BadLog, NoAuthor, NotFresh, TooDeep, NotRisingBack, Short, Present, Absent, Full, NoNewName, BadTable, NoEpoch, Malformed, NoGap, Listed, TableFull}
+use Rattle.answers.specs.Answers.{Outcome, Test, _else_, inOrder, check, countOf, refuse, accept, write}
+use Rattle.answers.proofs.Refusals.{Passed, whichever}
 use Rattle.pages.specs.Pages.{maxSlots, slotsOf, namesOf, pieces, keepsLayout, rises, lineIsZero, isLog, checkPage, checkLog}
 use Rattle.pages.specs.Places.{has}
-use Rattle.pages.proofs.Parts.{length-slots}
+use Rattle.pages.proofs.SlotBySlot.{length-slots}
 use Rattle.pages.proofs.RoundTrip.{laid}
-use Rattle.edits.specs.Edits.{placed, without, insertion, removal}
+use Rattle.edits.specs.Edits.{placed, without, editTests, insertOutcome, removeOutcome}
 use Rattle.edits.proofs.Books.{length-placed, length-without}
-use Rattle.gaps.specs.NewNames.{nameBefore, nameAfter, newName, refuseName, answerName, newNameIn}
-use Rattle.renames.specs.Renames.{carry, carried, areFresh, allFit, renaming, takingBack}
-use Rattle.renames.proofs.Logs.{logged}
-use Rattle.epochs.specs.Tables.{maxEntries, entriesOf, entryBytes, entryPieces, listed, keepsTable, added}
-use Rattle.epochs.specs.declared.Step.{Step}
-use Rattle.epochs.specs.declared.Step.the-variants.{Stay, Up, Down}
+use Rattle.new_names.specs.NewNames.{nameBefore, nameAfter, newName, refuseName, answerName, gapTests, newNameOutcome}
+use Rattle.page_renames.specs.Renames.{carry, carried, openingTests, renameTests, takeBackTests, renameOutcome, takeBackOutcome}
+use Rattle.one_name.proofs.CheckedLog.{logged}
+use Rattle.epoch_tree.specs.Tables.{maxEntries, entriesOf, entryBytes, entryPieces, listed, keepsTable, added}
+use Rattle.epoch_tree.specs.declared.Step.{Step}
+use Rattle.epoch_tree.specs.declared.Step.the-variants.{Stay, Up, Down}
 use Rattle.epochs.specs.declared.Next.{Next}
 use Rattle.epochs.specs.declared.Next.the-variants as next
-use Rattle.epochs.specs.Tree.{nextStep, after}
-use Rattle.epochs.specs.Calls.{checkTable, stepIndex, indexIn, answerOf, stepping, entryBy, adding}
-use Rattle.epochs.proofs.Walking.{walk-in}
-use Rattle.epochs.proofs.Adding.{added-length}
-use Rattle.epochs.proofs.Turns.{checked}
+use Rattle.epoch_tree.specs.Tree.{nextStep, after}
+use Rattle.epochs.specs.Calls.{epochTests, addTests, checkTable, stepIndex, indexIn, answerOf, nextStepOutcome, entryBy, addOutcome}
+use Rattle.epoch_tree.proofs.Walk.{walk-in}
+use Rattle.epoch_tree.proofs.AddedEpoch.{added-length}
+use Rattle.epoch_tree.proofs.TableBytes.{checked}
 use Rattle.messages.specs.declared.Numbers.{Numbers}
 use Rattle.messages.specs.Messages.{rename as renameKind, isMessage, messageBytes, mostNames, kindIn, namesPlace, namesIn, keepsMessage}
-use Rattle.messages.specs.Calls.{bare, reading, partsGiven, single, mayWrite, writing}
+use Rattle.messages.specs.Calls.{bare, readOutcome, partsGiven, single, mayWrite, writeOutcome}
 use Rattle.messages.proofs.Longest.{no-longer}
-use Rattle.messages.proofs.Walk.{names-few}
+use Rattle.messages.proofs.NameFields.{names-few}
 use Rattle.kadalumbir.specs.Library.{named}
 
 -- a count that can be packed
@@ -55,26 +57,18 @@ Small a = countOf a < 4294967296
 refuses : (r : Refusal) → Small (Refused r)
 refuses r = omega arith
 
--- After up to six tests: what is refused counts nothing, and what comes after them counts where the first of them is passed.
-after-tests : (a b c d e f : Bool) (p q r s t u : Refusal) (w : Outcome) → (a ≡ true → Small (w .answer)) → Small (ask a (refuse p) (ask b (refuse q) (ask c (refuse r) (ask d (refuse s) (ask e (refuse t) (ask f (refuse u) w))))) .answer)
-after-tests true true true true true true p q r s t u w g = g refl
-after-tests true true true true true false p q r s t u w g = refuses u
-after-tests true true true true false f p q r s t u w g = refuses t
-after-tests true true true false e f p q r s t u w g = refuses s
-after-tests true true false d e f p q r s t u w g = refuses r
-after-tests true false c d e f p q r s t u w g = refuses q
-after-tests false b c d e f p q r s t u w g = refuses p
+-- after any tests: what is refused counts nothing, and what comes after them counts where all are passed
+after-tests : (tests : List Test) (w : Outcome) → (Passed tests → Small (w .answer)) → Small (inOrder tests refuse w .answer)
+after-tests tests w f = whichever (λ x. Small (x .answer)) refuse w refuses tests f
 
-checks : (a b : Bool) (p q : Refusal) (n : ℕ) → (a ≡ true → n < 4294967296) → Small (ask a (Refused p) (ask b (Refused q) (Accepted n)))
-checks true true p q n g = g refl
-checks true false p q n g = refuses q
-checks false b p q n g = refuses p
+checks : (tests : List Test) (n : ℕ) → (Passed tests → n < 4294967296) → Small (check tests n)
+checks tests n f = whichever Small Refused (Accepted n) refuses tests f
 
 few : (s : Bytes) → keepsLayout s ≡ true → length (slotsOf s) ≤ maxSlots
 few s h = let n = length-slots s in let l : length s / slotSize ≤ maxSlots = laid s h .few in omega arith
 
 wrote : (l : List Bytes) (room : ℕ) → length l < 4294967296 → Small (write l room .answer)
-wrote l room h = after-tests (leb (length (flatten l)) room) true true true true true Short Short Short Short Short Short (accept l) (λ e. h)
+wrote l room h = after-tests (leb (length (flatten l)) room else Short ∷ []) (accept l) (λ p. h)
 
 slots-count : (l : List Slot) (room : ℕ) → length l ≤ suc maxSlots → Small (write (pieces l) room .answer)
 slots-count l room h = wrote (pieces l) room (let m = length-map l slotBytes in omega arith)
@@ -83,53 +77,57 @@ slots-count l room h = wrote (pieces l) room (let m = length-map l slotBytes in 
 
 pub check-page-count : (s : Bytes) → countOf (checkPage s) < 4294967296
 unfolding checkPage
-check-page-count s = checks (keepsLayout s) (rises s) BadLayout NotRising (length (slotsOf s)) (λ k. let l = few s k in omega arith)
+check-page-count s =
+    checks (keepsLayout s else BadLayout ∷ rises s else NotRising ∷ []) (length (slotsOf s)) (λ p. let l = few s (p .0) in omega arith)
 
 pub check-log-count : (s : Bytes) → countOf (checkLog s) < 4294967296
 unfolding checkLog
-check-log-count s = checks (isLog s) true BadLog BadLog (length (slotsOf s)) (λ k. let l = few s (logged s k .layout) in omega arith)
+check-log-count s = checks (isLog s else BadLog ∷ []) (length (slotsOf s)) (λ p. let l = few s (logged s (p .0) .layout) in omega arith)
+
+few-entries : (s : Bytes) → keepsTable s ≡ true → length (entriesOf s) ≤ maxEntries
+few-entries s k = checked s k .few
 
 pub check-table-count : (s : Bytes) → countOf (checkTable s) < 4294967296
 unfolding checkTable
-check-table-count s = checks (keepsTable s) true BadTable BadTable (length (entriesOf s)) (λ k. let l : length (entriesOf s) ≤ maxEntries = checked s k .few in omega arith)
+check-table-count s = checks (keepsTable s else BadTable ∷ []) (length (entriesOf s)) (λ p. let l = few-entries s (p .0) in omega arith)
 
 -- ── lines ──
 
-pub insert-count : (page slot : Bytes) (room : ℕ) → countOf (insertion page slot room .answer) < 4294967296
-unfolding insertion
+pub insert-count : (page slot : Bytes) (room : ℕ) → countOf (insertOutcome page slot room .answer) < 4294967296
+unfolding insertOutcome
 insert-count page slot room =
     let l = placed (slotOf slot) (slotsOf page) in
-    after-tests (keepsLayout page) (keepsSlot slot) (rises page) (not (has (nameOf slot) (namesOf page))) (ltb (length (slotsOf page)) maxSlots) true BadLayout BadLayout NotRising Present Full Full (write (pieces l) room) (λ k.
-    slots-count l room (let m = few page k in let n = length-placed (slotOf slot) (slotsOf page) in omega arith))
+    let own = not (has (nameOf slot) (namesOf page)) else Present ∷ ltb (length (slotsOf page)) maxSlots else Full ∷ [] in
+    after-tests (editTests page slot ++ own) (write (pieces l) room)
+    (λ p. slots-count l room (let m = few page (p .0) in let n = length-placed (slotOf slot) (slotsOf page) in omega arith))
 
-pub remove-count : (page slot : Bytes) (room : ℕ) → countOf (removal page slot room .answer) < 4294967296
-unfolding removal
+pub remove-count : (page slot : Bytes) (room : ℕ) → countOf (removeOutcome page slot room .answer) < 4294967296
+unfolding removeOutcome
 remove-count page slot room =
     let l = without (nameOf slot) (slotsOf page) in
-    after-tests (keepsLayout page) (keepsSlot slot) (rises page) (has (nameOf slot) (namesOf page)) true true BadLayout BadLayout NotRising Absent Absent Absent (write (pieces l) room) (λ k.
-    slots-count l room (let m = few page k in let n = length-without (nameOf slot) (slotsOf page) in omega arith))
+    let own = has (nameOf slot) (namesOf page) else Absent ∷ [] in
+    after-tests (editTests page slot ++ own) (write (pieces l) room)
+    (λ p. slots-count l room (let m = few page (p .0) in let n = length-without (nameOf slot) (slotsOf page) in omega arith))
 
 -- ── new names ──
 
-pub new-name-count : (page : Bytes) (gap : ℕ) (author : Author) → countOf (newNameIn page gap author .answer) < 4294967296
-unfolding newNameIn
-new-name-count page gap author = go (keepsLayout page) (rises page) (leb 1 (author .node)) (leb gap (length (slotsOf page))) (newName author (nameBefore gap (namesOf page)) (nameAfter gap (namesOf page)))
-  where
-    fitted : (b : Bool) (c : Row) → Small (ask b (refuseName TooDeep) (record { answer = Accepted 0; name = c }) .answer)
-    fitted true c = omega arith
-    fitted false c = refuses TooDeep
+named-small : (c : Row) → Small (answerName (some c) .answer)
+named-small c = whichever (λ x. Small (x .answer)) refuseName (record { answer = Accepted 0; name = c }) refuses (fits c else TooDeep ∷ []) (λ p. omega arith)
 
-    go : (a b c d : Bool) (o : Option Row) → Small (ask a (refuseName BadLayout) (ask b (refuseName NotRising) (ask c (refuseName NoAuthor) (ask d (refuseName NoGap) (answerName o)))) .answer)
-    go true true true true none = refuses NoNewName
-    go true true true true (some x) = fitted (fits x) x
-    go true true true false o = refuses NoGap
-    go true true false d o = refuses NoAuthor
-    go true false c d o = refuses NotRising
-    go false b c d o = refuses BadLayout
+pub new-name-count : (page : Bytes) (gap : ℕ) (author : Author) → countOf (newNameOutcome page gap author .answer) < 4294967296
+unfolding newNameOutcome
+new-name-count page gap author =
+    let given = newName author (nameBefore gap (namesOf page)) (nameAfter gap (namesOf page)) in
+    whichever (λ x. Small (x .answer)) refuseName (answerName given) refuses (gapTests page gap author) (λ p. by given)
+  where
+    by : (o : Option Row) → Small (answerName o .answer)
+    by none = refuses NoNewName
+    by (some c) = named-small c
 
 pub named-count : (a : Answer) (name : Row) (room : ℕ) → countOf a < 4294967296 → countOf (named a name room .answer) < 4294967296
 named-count (Refused r) name room h = refuses r
-named-count (Accepted n) name room h = after-tests (leb slotSize room) true true true true true Short Short Short Short Short Short (record { answer = Accepted n; bytes = slotBytes (record { line = 0; name = name }) }) (λ e. h)
+named-count (Accepted n) name room h =
+    after-tests (leb slotSize room else Short ∷ []) (record { answer = Accepted n; bytes = slotBytes (record { line = 0; name = name }) }) (λ p. h)
 
 -- ── renames ──
 
@@ -137,29 +135,30 @@ module _ (page log : Bytes) (author : Author) (room : ℕ) where
   carried-count : (f : Row → Row) → keepsLayout page ≡ true → Small (write (pieces (carried f (slotsOf page))) room .answer)
   carried-count f k = slots-count (carried f (slotsOf page)) room (let l = few page k in let n = length-map (slotsOf page) (carry f) in omega arith)
 
-  pub rename-count : countOf (renaming page log author room .answer) < 4294967296
-  unfolding renaming
+  pub rename-count : countOf (renameOutcome page log author room .answer) < 4294967296
+  unfolding renameOutcome
   rename-count =
       let f = rename author (namesOf log) in
-      after-tests (keepsLayout page) (rises page) (isLog log) (leb 1 (author .node)) (areFresh author page log) (allFit f page) BadLayout NotRising BadLog NoAuthor NotFresh TooDeep (write (pieces (carried f (slotsOf page))) room) (carried-count f)
+      after-tests (openingTests page log author ++ renameTests page log author) (write (pieces (carried f (slotsOf page))) room) (λ p. carried-count f (p .0))
 
-  pub take-back-count : countOf (takingBack page log author room .answer) < 4294967296
-  unfolding takingBack
+  pub take-back-count : countOf (takeBackOutcome page log author room .answer) < 4294967296
+  unfolding takeBackOutcome
   take-back-count =
       let f = takeBack author (namesOf log) in
-      after-tests (keepsLayout page) (rises page) (isLog log) (leb 1 (author .node)) (allFit f page) (rising (map f (namesOf page))) BadLayout NotRising BadLog NoAuthor TooDeep NotRisingBack (write (pieces (carried f (slotsOf page))) room) (carried-count f)
+      after-tests (openingTests page log author ++ takeBackTests page log author) (write (pieces (carried f (slotsOf page))) room) (λ p. carried-count f (p .0))
 
 -- ── epochs ──
 
-pub add-count : (table : Bytes) (parent : ℕ) (author : Author) (room : ℕ) → countOf (adding table parent author room .answer) < 4294967296
-unfolding adding
+pub add-count : (table : Bytes) (parent : ℕ) (author : Author) (room : ℕ) → countOf (addOutcome table parent author room .answer) < 4294967296
+unfolding addOutcome
 add-count table parent author room =
     let e = entryBy author parent in
-    after-tests (keepsTable table) (ltb parent (length (entriesOf table))) (leb 1 (author .node)) (not (listed e (entriesOf table))) (ltb (length (entriesOf table)) maxEntries) true BadTable NoEpoch NoAuthor Listed TableFull TableFull (write (entryPieces (added (entriesOf table) e)) room) (λ k.
-    wrote (entryPieces (added (entriesOf table) e)) room (
-    let l : length (entriesOf table) ≤ maxEntries = checked table k .few in
-    let n = added-length (entriesOf table) (checked table k) e in
-    let m = length-map (added (entriesOf table) e) entryBytes in
+    let t = entriesOf table in
+    after-tests (addTests table e) (write (entryPieces (added t e)) room) (λ p.
+    wrote (entryPieces (added t e)) room (
+    let l = few-entries table (p .0) in
+    let n = added-length t (checked table (p .0)) e in
+    let m = length-map (added t e) entryBytes in
     omega arith
     ))
 
@@ -169,41 +168,39 @@ step-count (next.Take s) = omega arith
 step-count (next.Refused r) = omega arith
 
 -- and leads to an index of the table, which a u32 holds
-pub step-index : (table : Bytes) (current : ℕ) → indexIn (stepping table current) < 4294967296
-unfolding stepping
-step-index table current = go (keepsTable table) (ltb current (length (entriesOf table))) refl refl
+pub step-index : (table : Bytes) (current : ℕ) → indexIn (nextStepOutcome table current) < 4294967296
+unfolding nextStepOutcome
+step-index table current =
+    let t = entriesOf table in
+    whichever (λ x. indexIn x < 4294967296) next.Refused (next.Take (nextStep t current)) (λ r. omega arith) (epochTests table current) (λ p.
+    let l = few-entries table (p .0) in
+    let w : after (nextStep t current) current < length t = walk-in t (checked table (p .0)) 1 current (ltb-true current (length t) (p .1 .0)) in
+    inside (nextStep t current) (omega arith)
+    )
   where
     inside : (s : Step) → after s current < maxEntries → stepIndex s < 4294967296
     inside Stay h = omega arith
     inside (Up i) h = omega arith
     inside (Down i) h = omega arith
 
-    go : (a b : Bool) → keepsTable table ≡ a → ltb current (length (entriesOf table)) ≡ b → indexIn (ask a (next.Refused BadTable) (ask b (next.Refused NoEpoch) (next.Take (nextStep (entriesOf table) current)))) < 4294967296
-    go true true k e =
-        let l : length (entriesOf table) ≤ maxEntries = checked table k .few in
-        let w : after (nextStep (entriesOf table) current) current < length (entriesOf table) = walk-in (entriesOf table) (checked table k) 1 current (ltb-true current (length (entriesOf table)) e) in
-        inside (nextStep (entriesOf table) current) (omega arith)
-    go true false k e = omega arith
-    go false b k e = omega arith
-
 -- ── messages ──
 
-pub write-message-count : (x : Numbers) (slots : Bytes) (room : ℕ) → countOf (writing x slots room .answer) < 4294967296
-unfolding writing
+pub write-message-count : (x : Numbers) (slots : Bytes) (room : ℕ) → countOf (writeOutcome x slots room .answer) < 4294967296
+unfolding writeOutcome
 write-message-count x slots room =
     let s = messageBytes (partsGiven x slots) in
-    after-tests (mayWrite x slots) true true true true true Malformed Malformed Malformed Malformed Malformed Malformed (write (map single s) room) (λ k.
+    after-tests (mayWrite x slots else Malformed ∷ []) (write (map single s) room) (λ p.
     wrote (map single s) room (
-    let a = and-0 (keepsLayout slots && isMessage (partsGiven x slots)) (every lineIsZero (slotsOf slots)) k in
+    let a = and-0 (keepsLayout slots && isMessage (partsGiven x slots)) (every lineIsZero (slotsOf slots)) (p .0) in
     let l = no-longer (partsGiven x slots) (and-1 (keepsLayout slots) (isMessage (partsGiven x slots)) a) in
     let m = length-map s single in
     omega arith
     ))
 
-pub read-message-count : (s : Bytes) (room : ℕ) → countOf (reading s room .answer) < 4294967296
-unfolding reading
+pub read-message-count : (s : Bytes) (room : ℕ) → countOf (readOutcome s room .answer) < 4294967296
+unfolding readOutcome
 read-message-count s room =
-    after-tests (keepsMessage s) true true true true true Malformed Malformed Malformed Malformed Malformed Malformed (write (pieces (map bare (namesIn s))) room) (λ k.
+    after-tests (keepsMessage s else Malformed ∷ []) (write (pieces (map bare (namesIn s))) room) (λ p.
     slots-count (map bare (namesIn s)) room (
     let l : length (namesIn s) ≤ mostNames (kindIn s) = names-few (mostNames (kindIn s)) (drop namesPlace s) in
     let n = length-map (namesIn s) bare in

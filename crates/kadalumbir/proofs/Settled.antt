@@ -2,7 +2,7 @@
 -- equal. `Learnt` is what a caller learns from the contract, of any arguments a, result r and parameters at exit s. Assumes nothing.
 use mathlib.Core.Path.{_≡_}
 use denote.Ref.{now}
-use Rattle.names.proofs.Settled.{one}
+use Rattle.numbers.proofs.Settled.{one}
 use Rattle.kadalumbir.specs.Library.{numbers}
 use Rattle.kadalumbir.proofs.kadalumbir_check_page.Reads as check-page
 use Rattle.kadalumbir.proofs.kadalumbir_check_log.Reads as check-log

@@ -4,18 +4,18 @@ ghost use mathlib.Core.Path.{_≡_};
 ghost use Prim.Native.Nat.{_<_};
 ghost use lib.ListN.{length};
 ghost use Rattle.names.specs.Names.{rowOf};
-ghost use Rattle.pages.specs.Answers.{countOf, leaves};
+ghost use Rattle.answers.specs.Answers.{countOf, leaves};
 ghost use Rattle.pages.specs.Pages.{checkPage, checkLog};
-ghost use Rattle.edits.specs.Edits.{insertion, removal};
-ghost use Rattle.renames.specs.Renames.{renaming, takingBack};
-ghost use Rattle.epochs.specs.Calls.{checkTable, numberIn, indexIn, answerOf, stepping, adding};
-ghost use Rattle.messages.specs.Calls.{reading, numbersRead, writing};
-ghost use Rattle.kadalumbir.specs.Library.{packed, named, newNaming, numbers};
+ghost use Rattle.edits.specs.Edits.{insertOutcome, removeOutcome};
+ghost use Rattle.page_renames.specs.Renames.{renameOutcome, takeBackOutcome};
+ghost use Rattle.epochs.specs.Calls.{checkTable, numberIn, indexIn, answerOf, nextStepOutcome, addOutcome};
+ghost use Rattle.messages.specs.Calls.{readOutcome, numbersRead, writeOutcome};
+ghost use Rattle.kadalumbir.specs.Library.{packed, named, newSlotOutcome, numbers};
 use messages::Numbers;
 use names::Author;
 use names::Name;
-use pages::Answer;
-use pages::Refusal;
+use answers::Answer;
+use answers::Refusal;
 use slots::SLOT;
 
 // answer × 2³² + count
@@ -23,7 +23,7 @@ fn pack(a: Answer) -> u64
     requires { ⌜ countOf a < 4294967296 ⌝ }
     ensures { λ r. ⌜ r ≡ packed a ⌝ }
 {
-    (pages::number(a) as u64) * 4294967296 + pages::count(a) as u64
+    (answers::number(a) as u64) * 4294967296 + answers::count(a) as u64
 }
 
 // ── checks ──
@@ -53,16 +53,16 @@ pub extern "C" fn kadalumbir_check_epochs(table: &[u8]) -> u64
 
 #[no_mangle]
 pub extern "C" fn kadalumbir_insert(page: &[u8], slot: &[u8], out: &mut [u8]) -> u64
-    ensures { λ r. ⌜ r ≡ packed (insertion (now (page .entry)) (now (slot .entry)) (length (now (out .entry))) .answer) ⌝ }
-    ensures { λ r. ⌜ now (out .exit) ≡ leaves (insertion (now (page .entry)) (now (slot .entry)) (length (now (out .entry)))) (now (out .entry)) ⌝ }
+    ensures { λ r. ⌜ r ≡ packed (insertOutcome (now (page .entry)) (now (slot .entry)) (length (now (out .entry))) .answer) ⌝ }
+    ensures { λ r. ⌜ now (out .exit) ≡ leaves (insertOutcome (now (page .entry)) (now (slot .entry)) (length (now (out .entry)))) (now (out .entry)) ⌝ }
 {
     pack(edits::insert(page, slot, out))
 }
 
 #[no_mangle]
 pub extern "C" fn kadalumbir_remove(page: &[u8], slot: &[u8], out: &mut [u8]) -> u64
-    ensures { λ r. ⌜ r ≡ packed (removal (now (page .entry)) (now (slot .entry)) (length (now (out .entry))) .answer) ⌝ }
-    ensures { λ r. ⌜ now (out .exit) ≡ leaves (removal (now (page .entry)) (now (slot .entry)) (length (now (out .entry)))) (now (out .entry)) ⌝ }
+    ensures { λ r. ⌜ r ≡ packed (removeOutcome (now (page .entry)) (now (slot .entry)) (length (now (out .entry))) .answer) ⌝ }
+    ensures { λ r. ⌜ now (out .exit) ≡ leaves (removeOutcome (now (page .entry)) (now (slot .entry)) (length (now (out .entry)))) (now (out .entry)) ⌝ }
 {
     pack(edits::remove(page, slot, out))
 }
@@ -94,10 +94,10 @@ pub extern "C" fn kadalumbir_new_name(
     sequence: u32,
     out: &mut [u8],
 ) -> u64
-    ensures { λ r. ⌜ r ≡ packed (newNaming (now (page .entry)) gap (record { node = node; sequence = sequence }) (length (now (out .entry))) .answer) ⌝ }
-    ensures { λ r. ⌜ now (out .exit) ≡ leaves (newNaming (now (page .entry)) gap (record { node = node; sequence = sequence }) (length (now (out .entry)))) (now (out .entry)) ⌝ }
+    ensures { λ r. ⌜ r ≡ packed (newSlotOutcome (now (page .entry)) gap (record { node = node; sequence = sequence }) (length (now (out .entry))) .answer) ⌝ }
+    ensures { λ r. ⌜ now (out .exit) ≡ leaves (newSlotOutcome (now (page .entry)) gap (record { node = node; sequence = sequence }) (length (now (out .entry)))) (now (out .entry)) ⌝ }
 {
-    let made = gaps::new_name(page, gap, Author { node, sequence });
+    let made = new_names::new_name(page, gap, Author { node, sequence });
     let answer = made.answer;
     let name = made.name;
     pack(write_name(answer, name, out))
@@ -113,10 +113,10 @@ pub extern "C" fn kadalumbir_rename(
     sequence: u32,
     out: &mut [u8],
 ) -> u64
-    ensures { λ r. ⌜ r ≡ packed (renaming (now (page .entry)) (now (log .entry)) (record { node = node; sequence = sequence }) (length (now (out .entry))) .answer) ⌝ }
-    ensures { λ r. ⌜ now (out .exit) ≡ leaves (renaming (now (page .entry)) (now (log .entry)) (record { node = node; sequence = sequence }) (length (now (out .entry)))) (now (out .entry)) ⌝ }
+    ensures { λ r. ⌜ r ≡ packed (renameOutcome (now (page .entry)) (now (log .entry)) (record { node = node; sequence = sequence }) (length (now (out .entry))) .answer) ⌝ }
+    ensures { λ r. ⌜ now (out .exit) ≡ leaves (renameOutcome (now (page .entry)) (now (log .entry)) (record { node = node; sequence = sequence }) (length (now (out .entry)))) (now (out .entry)) ⌝ }
 {
-    pack(renames::rename(page, log, Author { node, sequence }, out))
+    pack(page_renames::rename(page, log, Author { node, sequence }, out))
 }
 
 #[no_mangle]
@@ -127,10 +127,10 @@ pub extern "C" fn kadalumbir_take_back(
     sequence: u32,
     out: &mut [u8],
 ) -> u64
-    ensures { λ r. ⌜ r ≡ packed (takingBack (now (page .entry)) (now (log .entry)) (record { node = node; sequence = sequence }) (length (now (out .entry))) .answer) ⌝ }
-    ensures { λ r. ⌜ now (out .exit) ≡ leaves (takingBack (now (page .entry)) (now (log .entry)) (record { node = node; sequence = sequence }) (length (now (out .entry)))) (now (out .entry)) ⌝ }
+    ensures { λ r. ⌜ r ≡ packed (takeBackOutcome (now (page .entry)) (now (log .entry)) (record { node = node; sequence = sequence }) (length (now (out .entry))) .answer) ⌝ }
+    ensures { λ r. ⌜ now (out .exit) ≡ leaves (takeBackOutcome (now (page .entry)) (now (log .entry)) (record { node = node; sequence = sequence }) (length (now (out .entry)))) (now (out .entry)) ⌝ }
 {
-    pack(renames::take_back(page, log, Author { node, sequence }, out))
+    pack(page_renames::take_back(page, log, Author { node, sequence }, out))
 }
 
 // ── epochs ──
@@ -142,9 +142,9 @@ pub extern "C" fn kadalumbir_next_step(
     step: &mut u8,
     index: &mut u32,
 ) -> u64
-    ensures { λ r. ⌜ r ≡ packed (answerOf (stepping (now (table .entry)) current)) ⌝ }
-    ensures { λ _. ⌜ now (step .exit) ≡ numberIn (stepping (now (table .entry)) current) ⌝ }
-    ensures { λ _. ⌜ now (index .exit) ≡ indexIn (stepping (now (table .entry)) current) ⌝ }
+    ensures { λ r. ⌜ r ≡ packed (answerOf (nextStepOutcome (now (table .entry)) current)) ⌝ }
+    ensures { λ _. ⌜ now (step .exit) ≡ numberIn (nextStepOutcome (now (table .entry)) current) ⌝ }
+    ensures { λ _. ⌜ now (index .exit) ≡ indexIn (nextStepOutcome (now (table .entry)) current) ⌝ }
 {
     let next = epochs::next_step(table, current);
     *step = epochs::step_number(next);
@@ -160,8 +160,8 @@ pub extern "C" fn kadalumbir_add_epoch(
     sequence: u32,
     out: &mut [u8],
 ) -> u64
-    ensures { λ r. ⌜ r ≡ packed (adding (now (table .entry)) parent (record { node = node; sequence = sequence }) (length (now (out .entry))) .answer) ⌝ }
-    ensures { λ r. ⌜ now (out .exit) ≡ leaves (adding (now (table .entry)) parent (record { node = node; sequence = sequence }) (length (now (out .entry)))) (now (out .entry)) ⌝ }
+    ensures { λ r. ⌜ r ≡ packed (addOutcome (now (table .entry)) parent (record { node = node; sequence = sequence }) (length (now (out .entry))) .answer) ⌝ }
+    ensures { λ r. ⌜ now (out .exit) ≡ leaves (addOutcome (now (table .entry)) parent (record { node = node; sequence = sequence }) (length (now (out .entry)))) (now (out .entry)) ⌝ }
 {
     pack(epochs::add(table, parent, Author { node, sequence }, out))
 }
@@ -179,8 +179,8 @@ pub extern "C" fn kadalumbir_write_message(
     names: &[u8],
     out: &mut [u8],
 ) -> u64
-    ensures { λ r. ⌜ r ≡ packed (writing (numbers kind «epoch_node» «epoch_sequence» «author_node» «author_sequence» line) (now (names .entry)) (length (now (out .entry))) .answer) ⌝ }
-    ensures { λ r. ⌜ now (out .exit) ≡ leaves (writing (numbers kind «epoch_node» «epoch_sequence» «author_node» «author_sequence» line) (now (names .entry)) (length (now (out .entry)))) (now (out .entry)) ⌝ }
+    ensures { λ r. ⌜ r ≡ packed (writeOutcome (numbers kind «epoch_node» «epoch_sequence» «author_node» «author_sequence» line) (now (names .entry)) (length (now (out .entry))) .answer) ⌝ }
+    ensures { λ r. ⌜ now (out .exit) ≡ leaves (writeOutcome (numbers kind «epoch_node» «epoch_sequence» «author_node» «author_sequence» line) (now (names .entry)) (length (now (out .entry)))) (now (out .entry)) ⌝ }
 {
     let epoch = Author {
         node: epoch_node,
@@ -196,7 +196,7 @@ pub extern "C" fn kadalumbir_write_message(
         author,
         line,
     };
-    pack(messages::write(numbers, names, out))
+    pack(write_messages::write(numbers, names, out))
 }
 
 #[no_mangle]
@@ -210,11 +210,11 @@ pub extern "C" fn kadalumbir_read_message(
     line: &mut u32,
     out: &mut [u8],
 ) -> u64
-    ensures { λ r. ⌜ r ≡ packed (reading (now (message .entry)) (length (now (out .entry))) .answer) ⌝ }
+    ensures { λ r. ⌜ r ≡ packed (readOutcome (now (message .entry)) (length (now (out .entry))) .answer) ⌝ }
     ensures { λ _. ⌜ numbers (now (kind .exit)) (now («epoch_node» .exit)) (now («epoch_sequence» .exit)) (now («author_node» .exit)) (now («author_sequence» .exit)) (now (line .exit)) ≡ numbersRead (now (message .entry)) (length (now (out .entry))) ⌝ }
-    ensures { λ _. ⌜ now (out .exit) ≡ leaves (reading (now (message .entry)) (length (now (out .entry)))) (now (out .entry)) ⌝ }
+    ensures { λ _. ⌜ now (out .exit) ≡ leaves (readOutcome (now (message .entry)) (length (now (out .entry)))) (now (out .entry)) ⌝ }
 {
-    let read = messages::read(message, out);
+    let read = read_messages::read(message, out);
     let answer = read.answer;
     let numbers = read.numbers;
     let epoch = numbers.epoch;

@@ -2,7 +2,7 @@
 // decides anything is in `listings`; here it is read and written.
 use libc::STDIN_FILENO;
 use libc::STDOUT_FILENO;
-use listings::TEXT;
+use listing_text::TEXT;
 
 fn main() {
     // "with buffers set to zero for a whole page"
@@ -12,6 +12,6 @@ fn main() {
     let mut rest = [0u8; 1];
     let more = io::read_full(STDIN_FILENO, &mut rest);
     let mut text = [0u8; TEXT];
-    let end = listings::list(&page[..n], &rest[..more], &mut text);
+    let end = listing_text::list(&page[..n], &rest[..more], &mut text);
     io::write_all(STDOUT_FILENO, &text[..end]);
 }

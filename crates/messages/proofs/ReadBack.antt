@@ -11,16 +11,19 @@ use lib.ListN.{length}
 use Rattle.names.specs.declared.Author.{Author}
 use Rattle.names.specs.Ordering.{Row}
 use Rattle.names.specs.Names.{fits, isName}
-use Rattle.names.proofs.Laws.{and-0, and-1}
-use Rattle.slots.specs.Bytes.{Bytes, at32, bytes16, bytes32, tupleSize, tuplesAt, rowBytes, every}
-use Rattle.slots.proofs.Written.{row-length}
-use Rattle.slots.proofs.RoundTrip.{back32, row-back, name-words}
-use Rattle.pages.proofs.RoundTrip.{flat, flat-none, flat-append}
-use Rattle.messages.specs.Fields.{fieldHead, sizeIn, afterField, stands, fieldBytes}
+use Rattle.numbers.proofs.Bools.{and-0, and-1}
+use Rattle.numbers.specs.Bytes.{Bytes, at32, bytes16, bytes32}
+use Rattle.slots.specs.Tuples.{tupleSize, tuplesAt, rowBytes}
+use Rattle.numbers.specs.Lists.{every}
+use Rattle.slots.proofs.WrittenSlots.{row-length}
+use Rattle.numbers.proofs.NumberBytes.{back32}
+use Rattle.slots.proofs.RoundTrip.{row-back, name-words}
+use Rattle.numbers.proofs.Lists.{flat, flat-none, flat-append}
+use Rattle.fields.specs.Fields.{fieldHead, sizeIn, afterField, stands, fieldBytes}
 use Rattle.messages.specs.Messages.{insert, kindTag, epochTag, authorTag, nameTag, lineTag, kindSize, pairSize, lineSize, Parts, nameFits, mostNames, isMessage, pairBytes, nameField, lineFields, messageBytes, pairIn, nameStands, tuplesIn, namesWithin, afterNames, partsIn, nothing, endsAs, framed, keepsMessage}
-use Rattle.messages.proofs.Fields.{size-back, after-back, stands-back}
-use Rattle.messages.proofs.Walk.{names-turn, after-turn, names-stop, after-stop}
-use Rattle.messages.proofs.Facts.{Good, good}
+use Rattle.fields.proofs.FieldInverse.{size-back, after-back, stands-back}
+use Rattle.messages.proofs.NameFields.{names-turn, after-turn, names-stop, after-stop}
+use Rattle.messages.proofs.TestsPassed.{Good, good}
 
 -- ── the names ──
 
@@ -29,15 +32,19 @@ module _ (a : Row) (r : Bytes) where
   name-stands =
       let e = size-back nameTag (rowBytes a) r in
       let z : sizeIn (nameField a ++ r) % tupleSize ≡ 0 = let q = row-length a in omega arith in
-      λ i. stands-back nameTag (rowBytes a) r (sizeIn (nameField a ++ r)) (sym e) i && eq-eqb (sizeIn (nameField a ++ r) % tupleSize) 0 z i
+      let s = nameField a ++ r in
+      λ i. stands-back nameTag (rowBytes a) r (sizeIn s) (sym e) i && eq-eqb (sizeIn s % tupleSize) 0 z i
 
   tuples-back : isName a ≡ true → tuplesIn (nameField a ++ r) ≡ a
   tuples-back h =
-      let n : sizeIn (nameField a ++ r) / tupleSize ≡ length a = let e = size-back nameTag (rowBytes a) r in let q = row-length a in omega arith in
+      let e = size-back nameTag (rowBytes a) r in
+      let n : sizeIn (nameField a ++ r) / tupleSize ≡ length a = let q = row-length a in omega arith in
       ap (tuplesAt (nameField a ++ r) fieldHead) n ∙ row-back (nameTag ∷ bytes16 (length (rowBytes a))) a r (name-words a h)
 
   names-on : (most : ℕ) → isName a ≡ true → namesWithin (suc most) (nameField a ++ r) ≡ a ∷ namesWithin most r
-  names-on most h = names-turn (nameField a ++ r) most name-stands ∙ (λ i. tuples-back h i ∷ namesWithin most (after-back nameTag (rowBytes a) r i))
+  names-on most h =
+      names-turn (nameField a ++ r) most name-stands
+      ∙ (λ i. tuples-back h i ∷ namesWithin most (after-back nameTag (rowBytes a) r i))
 
   after-on : (most : ℕ) → afterNames (suc most) (nameField a ++ r) ≡ afterNames most r
   after-on most = after-turn (nameField a ++ r) most name-stands ∙ ap (afterNames most) (after-back nameTag (rowBytes a) r)
@@ -48,9 +55,12 @@ module _ (r : Bytes) (e : nameStands r ≡ false) where
   none = ap (λ (l : Bytes). l ++ r) flat-none
 
   cons : (a : Row) (l : List Row) → flatten (map nameField (a ∷ l)) ++ r ≡ nameField a ++ (flatten (map nameField l) ++ r)
-  cons a l = ap (λ (x : Bytes). x ++ r) (flat (nameField a) (map nameField l)) ∙ append-assoc (nameField a) (flatten (map nameField l)) r
+  cons a l =
+      ap (λ (x : Bytes). x ++ r) (flat (nameField a) (map nameField l))
+      ∙ append-assoc (nameField a) (flatten (map nameField l)) r
 
-  pub names-back : (l : List Row) (most : ℕ) → every nameFits l ≡ true → length l ≤ most → namesWithin most (flatten (map nameField l) ++ r) ≡ l
+  pub names-back : (l : List Row) (most : ℕ) → every nameFits l ≡ true → length l ≤ most
+      → namesWithin most (flatten (map nameField l) ++ r) ≡ l
   names-back [] most h f = ap (namesWithin most) none ∙ names-stop r e most
   names-back (a ∷ l) zero h f = absurd (omega arith)
   names-back (a ∷ l) (suc most) h f =
@@ -61,7 +71,10 @@ module _ (r : Bytes) (e : nameStands r ≡ false) where
   pub rest-back : (l : List Row) (most : ℕ) → length l ≤ most → afterNames most (flatten (map nameField l) ++ r) ≡ r
   rest-back [] most f = ap (afterNames most) none ∙ after-stop r e most
   rest-back (a ∷ l) zero f = absurd (omega arith)
-  rest-back (a ∷ l) (suc most) f = ap (afterNames (suc most)) (cons a l) ∙ after-on a (flatten (map nameField l) ++ r) most ∙ rest-back l most (omega arith)
+  rest-back (a ∷ l) (suc most) f =
+      ap (afterNames (suc most)) (cons a l)
+      ∙ after-on a (flatten (map nameField l) ++ r) most
+      ∙ rest-back l most (omega arith)
 
 -- ── the line number ──
 
@@ -97,12 +110,15 @@ module _ (p : Parts) where
   abbrev pub tail : Bytes
   tail = flatten (map nameField (p .names)) ++ flatten (lineFields (p .numbers .kind) (p .numbers .line))
 
-  -- the fields of fixed sizes, and what stands after them
-  pub split : messageBytes p ≡ fieldBytes kindTag (p .numbers .kind ∷ []) ++ (fieldBytes epochTag (pairBytes (p .numbers .epoch)) ++ (fieldBytes authorTag (pairBytes (p .numbers .author)) ++ tail))
+  -- the fields of fixed sizes, and then r
+  abbrev pub headed : Bytes → Bytes
+  headed r =
+      fieldBytes kindTag (p .numbers .kind ∷ [])
+      ++ (fieldBytes epochTag (pairBytes (p .numbers .epoch)) ++ (fieldBytes authorTag (pairBytes (p .numbers .author)) ++ r))
+
+  pub split : messageBytes p ≡ headed tail
   unfolding messageBytes flatten
-  split =
-      ap (λ (r : Bytes). fieldBytes kindTag (p .numbers .kind ∷ []) ++ (fieldBytes epochTag (pairBytes (p .numbers .epoch)) ++ (fieldBytes authorTag (pairBytes (p .numbers .author)) ++ r)))
-      (flat-append (map nameField (p .names)) (lineFields (p .numbers .kind) (p .numbers .line)))
+  split = ap headed (flat-append (map nameField (p .names)) (lineFields (p .numbers .kind) (p .numbers .line)))
 
 module _ (p : Parts) (h : isMessage p ≡ true) where
   v : Good p
@@ -120,13 +136,18 @@ module _ (p : Parts) (h : isMessage p ≡ true) where
   rest : afterNames (mostNames (p .numbers .kind)) (tail p) ≡ last
   rest = rest-back last no-more (p .names) (mostNames (p .numbers .kind)) (v .few)
 
-  line : cond (eqb (p .numbers .kind) insert) (at32 (afterNames (mostNames (p .numbers .kind)) (tail p)) fieldHead) 0 ≡ p .numbers .line
-  line = ap (λ (r : Bytes). cond (eqb (p .numbers .kind) insert) (at32 r fieldHead) 0) rest ∙ line-back (p .numbers .line) (eqb (p .numbers .kind) insert) (v .line)
+  abbrev is-insert : Bool
+  is-insert = eqb (p .numbers .kind) insert
+
+  line : cond is-insert (at32 (afterNames (mostNames (p .numbers .kind)) (tail p)) fieldHead) 0 ≡ p .numbers .line
+  line = ap (λ (r : Bytes). cond is-insert (at32 r fieldHead) 0) rest ∙ line-back (p .numbers .line) is-insert (v .line)
 
   pub parts-back : partsIn (messageBytes p) ≡ p
   parts-back =
+      let epoch = pair-back (p .numbers .epoch) [] in
+      let author = pair-back (p .numbers .author) [] in
       ap partsIn (split p)
-      ∙ (λ i. record { numbers = record { kind = p .numbers .kind; epoch = pair-back (p .numbers .epoch) [] i; author = pair-back (p .numbers .author) [] i; line = line i }; names = names i })
+      ∙ (λ i. record { numbers = record { kind = p .numbers .kind; epoch = epoch i; author = author i; line = line i }; names = names i })
 
   frames : framed (messageBytes p) ≡ true
   unfolding framed

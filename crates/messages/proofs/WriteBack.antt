@@ -1,23 +1,30 @@
--- Write after read: a message is the writing of what it says (`bytes-back`), whose parts may be written (Facts: `parts-message`). So "a
+-- Write after read: a message is the writing of what it says (`bytes-back`), which may be written (TestsPassed: `parts-message`). So "a
 -- message has one writing" (`one-writing`). Assumes nothing.
 use mathlib.Core.Path.{_≡_, refl, sym, ap, _∙_}
-use mathlib.Core.List.{[], _∷_, _++_, map, flatten, append-assoc, append-nil}
+use mathlib.Core.List.{List, [], _∷_, _++_, map, flatten, append-assoc, append-nil}
 use mathlib.Core.Bool.{Bool, true, false, cond, _&&_}
-use Prim.Native.Nat.{ℕ, zero, suc, _+_, _*_, _/_, _%_, _<_, _≤_}
+use Prim.Native.Nat.{ℕ, zero, suc, _+_, _-_, _*_, _/_, _%_, _<_, _≤_}
 use native.Mathlib.Omega.{arith}
 use borrow.Author.Tests.{eqb-true}
 use lib.Dec.{eqb}
 use lib.ListN.{length, take, drop, length-drop, drop-of-length-le}
 use lib.Seq.{drop-cons, drop-drop}
-use Rattle.names.proofs.Laws.{and-0, and-1}
-use Rattle.slots.specs.Bytes.{Bytes, Octets, at32, bytes32, tupleSize, rowBytes}
-use Rattle.slots.proofs.RoundTrip.{next-to, here16, here32, here-row}
-use Rattle.pages.proofs.RoundTrip.{octets-drop, flat, flat-none}
-use Rattle.messages.specs.Fields.{fieldHead, sizeIn, afterField, stands, fieldBytes}
-use Rattle.messages.specs.Messages.{insert, kindTag, epochTag, authorTag, nameTag, lineTag, kindSize, pairSize, lineSize, mostNames, pairBytes, nameField, messageBytes, epochPlace, authorPlace, namesPlace, pairIn, kindIn, nameStands, tuplesIn, namesWithin, afterNames, restIn, partsIn, nothing, keepsMessage}
-use Rattle.messages.proofs.Fields.{flat-one, Standing, standing, field-there}
-use Rattle.messages.proofs.Facts.{frame}
+use Rattle.names.specs.Ordering.{Row}
+use Rattle.numbers.proofs.Bools.{and-0, and-1}
+use Rattle.numbers.specs.Bytes.{Bytes, Octets, at32, bytes32}
+use Rattle.slots.specs.Tuples.{tupleSize, rowBytes}
+use Rattle.numbers.proofs.Lists.{next-to, flat, flat-none}
+use Rattle.numbers.proofs.NumberBytes.{here16, here32}
+use Rattle.slots.proofs.RoundTrip.{here-row}
+use Rattle.numbers.proofs.Octets.{octets-drop}
+use Rattle.fields.specs.Fields.{fieldHead, sizeIn, afterField, stands, fieldBytes}
+use Rattle.messages.specs.Messages.{insert, kindTag, epochTag, authorTag, nameTag, lineTag, kindSize, pairSize, lineSize, sequencePlace, mostNames, pairBytes, nameField, messageBytes, epochPlace, authorPlace, namesPlace, pairIn, kindIn, nameStands, tuplesIn, namesWithin, afterNames, restIn, partsIn, nothing, keepsMessage}
+use Rattle.fields.proofs.FieldInverse.{Standing, standing, field-there}
+use Rattle.messages.proofs.TestsPassed.{frame}
 use Rattle.messages.proofs.ReadBack.{tail, split}
+
+pub flat-one : (f : Bytes) → flatten (f ∷ []) ≡ f
+flat-one f = flat f [] ∙ ap (λ (r : Bytes). f ++ r) flat-none ∙ append-nil f
 
 is-nothing : (s : Bytes) → nothing s ≡ true → s ≡ []
 is-nothing s e = drop-of-length-le s {i = 0} (let z = eqb-true (length s) 0 e in omega arith)
@@ -33,11 +40,12 @@ module _ (s : Bytes) (k : Octets s) where
 
   pair-bytes : (p : ℕ) → p + fieldHead + pairSize ≤ length s → pairBytes (pairIn s p) ≡ take pairSize (drop fieldHead (drop p s))
   pair-bytes p h =
-      (λ i. here16 s k (p + fieldHead) (omega arith) i ++ here32 s k (p + fieldHead + 2) (omega arith) i)
-      ∙ next-to s (p + fieldHead) 2 4
+      (λ i. here16 s k (p + fieldHead) (omega arith) i ++ here32 s k (p + fieldHead + sequencePlace) (omega arith) i)
+      ∙ next-to s (p + fieldHead) sequencePlace (pairSize - sequencePlace)
       ∙ ap (take pairSize) (sym (drop-drop fieldHead p s))
 
-  pair-there : (tag p q : ℕ) → q ≡ p + (fieldHead + pairSize) → Standing tag pairSize (drop p s) → fieldBytes tag (pairBytes (pairIn s p)) ++ drop q s ≡ drop p s
+  pair-there : (tag p q : ℕ) → q ≡ p + (fieldHead + pairSize) → Standing tag pairSize (drop p s)
+      → fieldBytes tag (pairBytes (pairIn s p)) ++ drop q s ≡ drop p s
   pair-there tag p q e v =
       let l : p + fieldHead + pairSize ≤ length s = let w = v .long in let d = length-drop p s in omega arith in
       (λ i. fieldBytes tag (pair-bytes p l i) ++ (ap (λ (n : ℕ). drop n s) e ∙ sym (drop-drop (fieldHead + pairSize) p s)) i)
@@ -47,23 +55,35 @@ module _ (s : Bytes) (k : Octets s) where
 
 name-there : (s : Bytes) → Octets s → nameStands s ≡ true → nameField (tuplesIn s) ++ afterField s ≡ s
 name-there s k e =
-    let v = standing nameTag (sizeIn s) s (and-0 (stands nameTag (sizeIn s) s) (eqb (sizeIn s % tupleSize) 0) e) in
+    let size = sizeIn s in
+    let v = standing nameTag size s (and-0 (stands nameTag size s) (eqb (size % tupleSize) 0) e) in
     let l = v .long in
-    let z = eqb-true (sizeIn s % tupleSize) 0 (and-1 (stands nameTag (sizeIn s) s) (eqb (sizeIn s % tupleSize) 0) e) in
-    let n : tupleSize * (sizeIn s / tupleSize) ≡ sizeIn s = omega arith in
-    let c : rowBytes (tuplesIn s) ≡ take (sizeIn s) (drop fieldHead s) = here-row s k fieldHead (sizeIn s / tupleSize) (omega arith) ∙ ap (λ (j : ℕ). take j (drop fieldHead s)) n in
-    ap (λ (x : Bytes). fieldBytes nameTag x ++ afterField s) c ∙ field-there nameTag (sizeIn s) s k v
+    let z = eqb-true (size % tupleSize) 0 (and-1 (stands nameTag size s) (eqb (size % tupleSize) 0) e) in
+    let n : tupleSize * (size / tupleSize) ≡ size = omega arith in
+    let row = here-row s k fieldHead (size / tupleSize) (omega arith) in
+    let c : rowBytes (tuplesIn s) ≡ take size (drop fieldHead s) = row ∙ ap (λ (j : ℕ). take j (drop fieldHead s)) n in
+    ap (λ (x : Bytes). fieldBytes nameTag x ++ afterField s) c ∙ field-there nameTag size s k v
 
 names-there : (most : ℕ) (s : Bytes) → Octets s → flatten (map nameField (namesWithin most s)) ++ afterNames most s ≡ s
 names-there zero s k = ap (λ (x : Bytes). x ++ s) flat-none
 names-there (suc most) s k = go (nameStands s) refl (names-there most (afterField s) (octets-drop (fieldHead + sizeIn s) s k))
   where
-    go : (b : Bool) → nameStands s ≡ b → flatten (map nameField (namesWithin most (afterField s))) ++ afterNames most (afterField s) ≡ afterField s → flatten (map nameField (cond b (tuplesIn s ∷ namesWithin most (afterField s)) [])) ++ cond b (afterNames most (afterField s)) s ≡ s
+    here : Bytes
+    here = nameField (tuplesIn s)
+
+    names : List Row
+    names = namesWithin most (afterField s)
+
+    after : Bytes
+    after = afterNames most (afterField s)
+
+    go : (b : Bool) → nameStands s ≡ b → flatten (map nameField names) ++ after ≡ afterField s
+        → flatten (map nameField (cond b (tuplesIn s ∷ names) [])) ++ cond b after s ≡ s
     go false e h = ap (λ (x : Bytes). x ++ s) flat-none
     go true e h =
-        ap (λ (x : Bytes). x ++ afterNames most (afterField s)) (flat (nameField (tuplesIn s)) (map nameField (namesWithin most (afterField s))))
-        ∙ append-assoc (nameField (tuplesIn s)) (flatten (map nameField (namesWithin most (afterField s)))) (afterNames most (afterField s))
-        ∙ ap (λ (x : Bytes). nameField (tuplesIn s) ++ x) h
+        ap (λ (x : Bytes). x ++ after) (flat here (map nameField names))
+        ∙ append-assoc here (flatten (map nameField names)) after
+        ∙ ap (λ (x : Bytes). here ++ x) h
         ∙ name-there s k e
 
 after-octets : (most : ℕ) (s : Bytes) → Octets s → Octets (afterNames most s)
@@ -80,17 +100,20 @@ module _ (r : Bytes) (k : Octets r) where
   line-bytes : Standing lineTag lineSize r → nothing (afterField r) ≡ true → fieldBytes lineTag (bytes32 (at32 r fieldHead)) ≡ r
   line-bytes v e =
       let d : drop (fieldHead + lineSize) r ≡ [] = ap (λ (n : ℕ). drop (fieldHead + n) r) (sym (v .sized)) ∙ is-nothing (afterField r) e in
+      let f = fieldBytes lineTag (take lineSize (drop fieldHead r)) in
       ap (fieldBytes lineTag) (here32 r k fieldHead (v .long))
-      ∙ sym (append-nil (fieldBytes lineTag (take lineSize (drop fieldHead r))))
-      ∙ ap (λ (x : Bytes). fieldBytes lineTag (take lineSize (drop fieldHead r)) ++ x) (sym d)
+      ∙ sym (append-nil f)
+      ∙ ap (λ (x : Bytes). f ++ x) (sym d)
       ∙ field-there lineTag lineSize r k v
 
-  end-there : (b : Bool) → cond b (stands lineTag lineSize r && nothing (afterField r)) (nothing r) ≡ true → flatten (cond b (fieldBytes lineTag (bytes32 (cond b (at32 r fieldHead) 0)) ∷ []) []) ≡ r
+  end-there : (b : Bool) → cond b (stands lineTag lineSize r && nothing (afterField r)) (nothing r) ≡ true
+      → flatten (cond b (fieldBytes lineTag (bytes32 (cond b (at32 r fieldHead) 0)) ∷ []) []) ≡ r
   end-there false e = flat-none ∙ sym (is-nothing r e)
   end-there true e =
-      let f = fieldBytes lineTag (bytes32 (at32 r fieldHead)) in
-      flat-one f
-      ∙ line-bytes (standing lineTag lineSize r (and-0 (stands lineTag lineSize r) (nothing (afterField r)) e)) (and-1 (stands lineTag lineSize r) (nothing (afterField r)) e)
+      let stood = stands lineTag lineSize r in
+      let ended = nothing (afterField r) in
+      flat-one (fieldBytes lineTag (bytes32 (at32 r fieldHead)))
+      ∙ line-bytes (standing lineTag lineSize r (and-0 stood ended e)) (and-1 stood ended e)
 
 -- ── the message ──
 
@@ -102,8 +125,10 @@ bytes-back s k h =
     let kind = fieldBytes kindTag (kindIn s ∷ []) in
     let epoch = fieldBytes epochTag (pairBytes (pairIn s epochPlace)) in
     let author = fieldBytes authorTag (pairBytes (pairIn s authorPlace)) in
-    let e = end-there (restIn s) (after-octets (mostNames (kindIn s)) t o) (eqb (kindIn s) insert) (v .end) in
-    let n : tail (partsIn s) ≡ t = ap (λ (x : Bytes). flatten (map nameField (namesWithin (mostNames (kindIn s)) t)) ++ x) e ∙ names-there (mostNames (kindIn s)) t o in
+    let most = mostNames (kindIn s) in
+    let e = end-there (restIn s) (after-octets most t o) (eqb (kindIn s) insert) (v .end) in
+    let names = flatten (map nameField (namesWithin most t)) in
+    let n : tail (partsIn s) ≡ t = ap (λ (x : Bytes). names ++ x) e ∙ names-there most t o in
     split (partsIn s)
     ∙ ap (λ (x : Bytes). kind ++ (epoch ++ (author ++ x))) n
     ∙ ap (λ (x : Bytes). kind ++ (epoch ++ x)) (pair-there s k authorTag authorPlace namesPlace refl (v .author))
@@ -111,5 +136,6 @@ bytes-back s k h =
     ∙ kind-there s k (v .kind)
 
 -- "A message has one writing."
-pub one-writing : (s t : Bytes) → Octets s → Octets t → keepsMessage s ≡ true → keepsMessage t ≡ true → partsIn s ≡ partsIn t → s ≡ t
+pub one-writing : (s t : Bytes) → Octets s → Octets t → keepsMessage s ≡ true → keepsMessage t ≡ true
+    → partsIn s ≡ partsIn t → s ≡ t
 one-writing s t k l h g e = sym (bytes-back s k h) ∙ ap messageBytes e ∙ bytes-back t l g

@@ -1,3 +1,3 @@
-pub mod Fields
 pub mod Messages
 pub mod Calls
+pub mod Laws

@@ -7,10 +7,12 @@ use lib.Dec.{eqb, leb}
 use Rattle.names.specs.declared.Author.{Author}
 use Rattle.names.specs.Ordering.{Row, rising}
 use Rattle.names.specs.Names.{limit, fits, within, isName}
-use Rattle.slots.specs.Bytes.{Bytes, at16, at32, bytes16, bytes32, tupleSize, tuplesAt, rowBytes, every}
+use Rattle.numbers.specs.Bytes.{Bytes, at16, at32, bytes16, bytes32}
+use Rattle.slots.specs.Tuples.{tupleSize, tuplesAt, rowBytes}
+use Rattle.numbers.specs.Lists.{every}
 use Rattle.pages.specs.Pages.{maxSlots}
 use Rattle.messages.specs.declared.Numbers.{Numbers}
-use Rattle.messages.specs.Fields.{fieldHead, sizeIn, afterField, stands, fieldBytes}
+use Rattle.fields.specs.Fields.{fieldHead, sizeIn, afterField, stands, fieldBytes}
 
 -- "kind, one byte (1 insert, 2 remove, 3 rename)"
 abbrev pub insert : ℕ
@@ -47,6 +49,10 @@ pairSize = 6
 
 abbrev pub lineSize : ℕ
 lineSize = 4
+
+-- where the sequence stands in a pair, after the node
+abbrev pub sequencePlace : ℕ
+sequencePlace = 2
 
 -- What a message says, and "the parts given for one".
 pub record Parts : Type 0 where
@@ -125,7 +131,7 @@ namesPlace = authorPlace + fieldHead + pairSize
 
 -- node and sequence of the field that begins at p
 abbrev pub pairIn : Bytes → ℕ → Author
-pairIn s p = record { node = at16 s (p + fieldHead); sequence = at32 s (p + fieldHead + 2) }
+pairIn s p = record { node = at16 s (p + fieldHead); sequence = at32 s (p + fieldHead + sequencePlace) }
 
 abbrev pub kindIn : Bytes → ℕ
 kindIn s = getD s fieldHead 0

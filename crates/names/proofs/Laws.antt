@@ -12,6 +12,7 @@ use native.Mathlib.Omega.{arith}
 use borrow.Author.Tests.{lt-ltb, le-ltb}
 use lib.IntN.{ℤ, pos, negsuc, predℤ}
 use lib.ListN.{length, getD}
+use Rattle.numbers.proofs.Bools.{and-0, and-1, yes-no}
 use Rattle.names.specs.declared.Tuple.{Tuple}
 use Rattle.names.specs.declared.Order.{Order}
 use Rattle.names.specs.declared.Order.the-variants.{Less, Same, More}
@@ -293,21 +294,10 @@ lowered-next {s} {t} (offset a b c h) = elim (pred-next h) [ inl e ↦ inl (tupl
 
 -- ── rising rows of names ──
 
-pub and-0 : (a b : Bool) → a && b ≡ true → a ≡ true
-and-0 true b e = refl
-and-0 false b e = e
-
-pub and-1 : (a b : Bool) → a && b ≡ true → b ≡ true
-and-1 true b e = e
-and-1 false b e = absurd (let z : _≡_ {A = ℕ} 0 1 = cc in omega arith)
-
 is-less : (o : Order) → isLess o ≡ true → o ≡ Less
 is-less Less e = refl
 is-less Same e = absurd (let z : _≡_ {A = ℕ} 0 1 = cc in omega arith)
 is-less More e = absurd (let z : _≡_ {A = ℕ} 0 1 = cc in omega arith)
-
-pub yes-no : {A : Type 0} {b : Bool} → b ≡ true → b ≡ false → A
-yes-no p q = absurd (let z : _≡_ {A = ℕ} 0 1 = cc in omega arith)
 
 pub rising-Rising : (l : List Row) → rising l ≡ true → Rising l
 unfolding rising

@@ -1,7 +1,6 @@
 pub mod Laws
-pub mod Signed
-pub mod Compared
-pub mod Joins
+pub mod CompareTuples
 pub mod Validity
-pub mod Lowered
+pub mod TestedOrder
+pub mod NameLaws
 pub mod Settled

@@ -15,7 +15,8 @@ use Rattle.names.specs.declared.Order.{Order}
 use Rattle.names.specs.declared.Order.the-variants.{Less, Same, More}
 use Rattle.names.specs.Ordering.{Row, compareTuples, isSame, _<ᶻ_, up, across, down}
 use Rattle.names.specs.Names.{within, withinℤ, ordinaryFrom, ordinary, m, M, marker, endsWell, isName, lowered}
-use Rattle.names.proofs.Laws.{and-0, and-1, same-tuple, tuple-same, <ᶻ-trans, pred-below}
+use Rattle.numbers.proofs.Bools.{and-0, and-1}
+use Rattle.names.proofs.Laws.{same-tuple, tuple-same, <ᶻ-trans, pred-below}
 
 -- "An ordinary tuple has position 1..65534, node 1..65535, any sequence, offset −1..2147483646."
 pub record Ordinary (t : Tuple) : Type 0 where

@@ -1,8 +1,6 @@
-pub mod Parts
-pub mod Halving
-pub mod Copied
+pub mod SlotBySlot
+pub mod FindByHalving
 pub mod RoundTrip
-pub mod Octets
-pub mod Refusals
-pub mod Outcomes
+pub mod WrittenOctets
+pub mod PageOutcomes
 pub mod Settled

@@ -14,45 +14,18 @@ use lib.ListN.{length, take, drop, length-append, length-drop, length-take, take
 use lib.Seq.{getD-take, getD-drop, take-at, drop-at}
 use Rattle.names.specs.Ordering.{Rising}
 use Rattle.names.proofs.Validity.{Valid, name-valid}
-use Rattle.names.proofs.Laws.{and-0, and-1, Rising-rising}
-use Rattle.slots.specs.Bytes.{Bytes, Octets, every}
+use Rattle.numbers.proofs.Bools.{and-0, and-1}
+use Rattle.names.proofs.Laws.{Rising-rising}
+use Rattle.numbers.specs.Bytes.{Bytes, Octets}
+use Rattle.numbers.specs.Lists.{every}
+use Rattle.numbers.proofs.Lists.{flat, flat-none, flat-append}
+use Rattle.numbers.proofs.Octets.{octets-take, octets-drop}
+use Rattle.numbers.proofs.Parts.{flat-all}
 use Rattle.slots.specs.Slots.{Slot, slotSize, slotOf, keepsSlot, slotBytes, isSlot}
 use Rattle.slots.proofs.RoundTrip.{kept, bytes-back, decoded-slot, slot-back, encoded-length, encoded-keeps}
-use Rattle.pages.specs.Pages.{maxSlots, parts, partsOf, slotsOf, nameIn, namesOf, pieces, keepsLayout, rises}
-
--- ── parts of bytes ──
-
-pub octets-take : (n : ℕ) (s : Bytes) → Octets s → Octets (take n s)
-octets-take n s k i = elim (decLt i n) [
-  | yes h ↦ rw (getD-take n s i 0 h) (k i)
-  | no h ↦ let l : length (take n s) ≤ i = omega (arith, length-take n s) in rw (List·getD-eq-default (take n s) 0 l) (omega arith)
-]
-
-pub octets-drop : (n : ℕ) (s : Bytes) → Octets s → Octets (drop n s)
-octets-drop n s k i = rw (getD-drop n s i 0) (k (n + i))
+use Rattle.pages.specs.Pages.{layoutOver, maxSlots, parts, partsOf, slotsOf, nameIn, namesOf, pieces, keepsLayout, rises}
 
 -- ── from bytes and back ──
-
-pub flat : (x : Bytes) (l : List Bytes) → flatten (x ∷ l) ≡ x ++ flatten l
-unfolding flatten
-flat x l = refl
-
-pub flat-none : flatten {A = ℕ} [] ≡ []
-unfolding flatten
-flat-none = refl
-
-pub flat-append : (a b : List Bytes) → flatten (a ++ b) ≡ flatten a ++ flatten b
-flat-append [] b = ap (λ (l : Bytes). l ++ flatten b) (sym flat-none)
-flat-append (x ∷ a) b =
-    flat x (a ++ b) ∙ ap (λ (l : Bytes). x ++ l) (flat-append a b) ∙ sym (append-assoc x (flatten a) (flatten b)) ∙ ap (λ (l : Bytes). l ++ flatten b) (sym (flat x a))
-
--- the parts, one after the other, are the whole
-pub flat-all : (n : ℕ) (s : Bytes) → length s ≡ slotSize * n → flatten (parts n s) ≡ s
-flat-all zero s e = flat-none ∙ sym (drop-of-length-le s {i = 0} (omega arith))
-flat-all (suc n) s e =
-    flat (take slotSize s) (parts n (drop slotSize s))
-    ∙ ap (λ (l : Bytes). take slotSize s ++ l) (flat-all n (drop slotSize s) (simp length-drop (omega arith)))
-    ∙ take-append-drop slotSize s
 
 -- a part that keeps the layout is the bytes of what it says
 parts-again : (n : ℕ) (s : Bytes) → Octets s → every keepsSlot (parts n s) ≡ true → map slotBytes (map slotOf (parts n s)) ≡ parts n s
@@ -80,7 +53,7 @@ pub record Laid (s : Bytes) : Type 0 where
   pub good : every keepsSlot (partsOf s) ≡ true
 
 pub laid : (s : Bytes) → keepsLayout s ≡ true → Laid s
-unfolding keepsLayout
+unfolding layoutOver
 laid s e =
     let a = eqb (length s % slotSize) 0 in
     let b = leb (length s / slotSize) maxSlots in
@@ -105,7 +78,7 @@ module _ (s : Bytes) (k : Octets s) (e : keepsLayout s ≡ true) where
   page-slots = parts-good (length s / slotSize) s k (laid s e .good)
 
   pub page-back : flatten (pieces (slotsOf s)) ≡ s
-  page-back = ap flatten pieces-are ∙ flat-all (length s / slotSize) s (laid s e .whole)
+  page-back = ap flatten pieces-are ∙ flat-all slotSize (length s / slotSize) s (laid s e .whole)
 
 -- ── from slots and back ──
 
@@ -144,7 +117,7 @@ module _ (l : List Slot) (e : every isSlot l ≡ true) where
   slots-back = ap (map slotOf) parts-are ∙ decoded l e
 
   pub encoded-layout : length l ≤ maxSlots → keepsLayout (flatten (pieces l)) ≡ true
-  unfolding keepsLayout
+  unfolding layoutOver
   encoded-layout h =
       let q = written-length l e in
       let z : length (flatten (pieces l)) % slotSize ≡ 0 = omega arith in

@@ -3,9 +3,7 @@
 use mathlib.Core.Path.{_≡_}
 use denote.Ref.{now}
 use Rattle.names.specs.Names.{rowOf}
-use Rattle.names.proofs.Settled.{one}
-use Rattle.pages.proofs.number.Reads as number
-use Rattle.pages.proofs.count.Reads as count
+use Rattle.numbers.proofs.Settled.{one}
 use Rattle.pages.proofs.page_ok.Reads as page-ok
 use Rattle.pages.proofs.slot_ok.Reads as slot-ok
 use Rattle.pages.proofs.page_rises.Reads as page-rises
@@ -14,14 +12,7 @@ use Rattle.pages.proofs.check_page.Reads as check-page
 use Rattle.pages.proofs.check_log.Reads as check-log
 use Rattle.pages.proofs.check_slot.Reads as check-slot
 use Rattle.pages.proofs.find.Reads as find
-use Rattle.pages.proofs.copy.Reads as copy
 use Rattle.pages.proofs.name_of.Reads as name-of
-
-pub number-settled : (κs : _) (a : _) (r : _) (s : _) (r' : _) (s' : _) → number.Learnt κs a r s → number.Learnt κs a r' s' → r ≡ r'
-number-settled κs a r s r' s' p q = one p q
-
-pub count-settled : (κs : _) (a : _) (r : _) (s : _) (r' : _) (s' : _) → count.Learnt κs a r s → count.Learnt κs a r' s' → r ≡ r'
-count-settled κs a r s r' s' p q = one p q
 
 pub page-ok-settled : (κs : _) (a : _) (r : _) (s : _) (r' : _) (s' : _) → page-ok.Learnt κs a r s → page-ok.Learnt κs a r' s' → r ≡ r'
 page-ok-settled κs a r s r' s' p q = one p q
@@ -46,9 +37,6 @@ check-slot-settled κs a r s r' s' p q = one p q
 
 pub find-settled : (κs : _) (a : _) (r : _) (s : _) (r' : _) (s' : _) → find.Learnt κs a r s → find.Learnt κs a r' s' → r ≡ r'
 find-settled κs a r s r' s' p q = one p q
-
-pub copy-settled : (κs : _) (a : _) (r : _) (s : _) (r' : _) (s' : _) → copy.Learnt κs a r s → copy.Learnt κs a r' s' → now (s .0) ≡ now (s' .0)
-copy-settled κs a r s r' s' p q = one p q
 
 pub name-of-settled : (κs : _) (a : _) (r : _) (s : _) (r' : _) (s' : _) → name-of.Learnt κs a r s → name-of.Learnt κs a r' s' → rowOf r ≡ rowOf r'
 name-of-settled κs a r s r' s' p q = one p q

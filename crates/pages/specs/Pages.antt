@@ -1,29 +1,42 @@
 -- Pages and logs: document 01, "Pages, logs, epochs".
-use Prim.Native.Nat.{ℕ, zero, suc, _/_, _%_}
+use Prim.Native.Nat.{ℕ, _/_, _%_}
 use mathlib.Core.List.{List, [], _∷_, map}
 use mathlib.Core.Bool.{Bool, _&&_}
-use lib.ListN.{length, take, drop}
+use lib.ListN.{length}
 use lib.Dec.{eqb, leb}
 use Rattle.names.specs.Ordering.{Row, rising}
-use Rattle.slots.specs.Bytes.{Bytes, every, isZero}
-use Rattle.slots.specs.Slots.{Slot, slotSize, slotOf, keepsSlot, slotBytes}
-use Rattle.pages.specs.Answers.{_else_, check}
-use Rattle.pages.specs.declared.Answer.{Answer}
-use Rattle.pages.specs.declared.Refusal.the-variants.{BadLayout, NotRising, BadLog}
+use Rattle.numbers.specs.Lists.{every, firstParts, equalParts}
+use Rattle.numbers.specs.Bytes.{Bytes, isZero}
+use Rattle.names.specs.Names.{limit}
+use Rattle.slots.specs.Slots.{sizeOver, keepsOver, Slot, slotSize, slotOf, keepsSlot, slotBytes}
+use Rattle.answers.specs.Answers.{_else_, check}
+use Rattle.answers.specs.declared.Answer.{Answer}
+use Rattle.answers.specs.declared.Refusal.the-variants.{BadLayout, NotRising, BadLog}
 
 -- "A page is 0..256 slots"
 abbrev pub maxSlots : ℕ
 maxSlots = 256
 
+-- ── slots with room for so many tuples, one after the other ──
+
+module _ (room : ℕ) where
+  -- each slot's bytes
+  abbrev pub partsOver : Bytes → List Bytes
+  partsOver s = equalParts (sizeOver room) s
+
+  -- "A page is 0..256 slots .. 26,624 bytes at most"; "A length that is no whole number of slots or entries breaks the layout."
+  unfoldable pub layoutOver : Bytes → Bool
+  layoutOver s =
+      eqb (length s % sizeOver room) 0 && leb (length s / sizeOver room) maxSlots && every (keepsOver room) (partsOver s)
+
 -- ── a page as bytes, and as the list of its slots ──
 
--- the first n slots' bytes
+-- the first n slots' bytes, and those of all
 abbrev pub parts : ℕ → Bytes → List Bytes
-parts zero s = []
-parts (suc n) s = take slotSize s ∷ parts n (drop slotSize s)
+parts n s = firstParts slotSize n s
 
 abbrev pub partsOf : Bytes → List Bytes
-partsOf s = parts (length s / slotSize) s
+partsOf s = partsOver limit s
 
 abbrev pub slotsOf : Bytes → List Slot
 slotsOf s = map slotOf (partsOf s)
@@ -40,9 +53,8 @@ pieces l = map slotBytes l
 
 -- ── the layout ──
 
--- "A page is 0..256 slots .. 26,624 bytes at most"; "A length that is no whole number of slots or entries breaks the layout."
-unfoldable pub keepsLayout : Bytes → Bool
-keepsLayout s = eqb (length s % slotSize) 0 && leb (length s / slotSize) maxSlots && every keepsSlot (partsOf s)
+abbrev pub keepsLayout : Bytes → Bool
+keepsLayout = layoutOver limit
 
 -- "with strictly rising names"
 abbrev pub rises : Bytes → Bool

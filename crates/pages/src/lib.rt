@@ -1,4 +1,4 @@
-// Pages and logs as bytes: the answers, the checks of a page, a log and a slot, and finding a name.
+// Pages and logs as bytes: the checks of a page, a log and a slot, and finding a name.
 // Document 01, "Pages, logs, epochs" and "What comes back"; the definitions are in specs/.
 ghost use mathlib.Core.Path.{_≡_};
 ghost use mathlib.Core.Bool.{true};
@@ -6,11 +6,13 @@ ghost use Prim.Native.Nat.{_≤_, _+_};
 ghost use mathlib.Core.List.{[]};
 ghost use lib.ListN.{length, getD};
 ghost use Rattle.names.specs.Names.{rowOf};
-ghost use Rattle.slots.specs.Bytes.{every, put};
+ghost use Rattle.numbers.specs.Lists.{every};
+ghost use Rattle.numbers.specs.Bytes.{put};
 ghost use Rattle.slots.specs.Slots.{slotSize, nameOf, keepsSlot};
-ghost use Rattle.pages.specs.Answers.{refusalNumber, numberOf, countOf};
 ghost use Rattle.pages.specs.Pages.{partsOf, slotsOf, namesOf, rises, lineIsZero, keepsLayout, isLog, checkPage, checkLog, checkSlot};
 ghost use Rattle.pages.specs.Places.{placeOf};
+use answers::Answer;
+use answers::Refusal;
 use names::Name;
 use names::Order;
 use slots::SLOT;
@@ -19,97 +21,6 @@ use slots::SLOT;
 pub const SLOTS: usize = 256;
 
 pub const PAGE: usize = SLOTS * SLOT;
-
-// What is refused, in the order of 01's table, each under its number.
-pub enum Refusal {
-    // 1: a page (its order apart) or given slot breaks its layout.
-    BadLayout,
-    // 2: page names not strictly rising.
-    NotRising,
-    // 3: log breaks its layout, is empty, not rising, or has a line number other than 0.
-    BadLog,
-    // 4: author node is 0.
-    NoAuthor,
-    // 5: rename not fresh.
-    NotFresh,
-    // 6: some result needs more than eight tuples.
-    TooDeep,
-    // 7: taken-back names not strictly rising.
-    NotRisingBack,
-    // 8: output shorter than the result.
-    Short,
-    // 9: insert: name present.
-    Present,
-    // 10: remove: name absent.
-    Absent,
-    // 11: insert: page has 256 slots.
-    Full,
-    // 12: no new name by the rule.
-    NoNewName,
-    // 13: epoch table breaks its layout.
-    BadTable,
-    // 14: current or parent index not in the table.
-    NoEpoch,
-    // 15: message, or the parts given for one, malformed.
-    Malformed,
-    // 16: gap beyond the page.
-    NoGap,
-    // 17: epoch to add already listed.
-    Listed,
-    // 18: epoch table has 32 entries.
-    TableFull,
-}
-
-// What comes back: 0 with the count of slots, entries or bytes written, or a refusal.
-pub enum Answer {
-    Accepted(usize),
-    Refused(Refusal),
-}
-
-fn refusal_number(r: Refusal) -> u32
-    ensures { λ n. ⌜ n ≡ refusalNumber r ⌝ }
-{
-    match r {
-        Refusal::BadLayout => 1,
-        Refusal::NotRising => 2,
-        Refusal::BadLog => 3,
-        Refusal::NoAuthor => 4,
-        Refusal::NotFresh => 5,
-        Refusal::TooDeep => 6,
-        Refusal::NotRisingBack => 7,
-        Refusal::Short => 8,
-        Refusal::Present => 9,
-        Refusal::Absent => 10,
-        Refusal::Full => 11,
-        Refusal::NoNewName => 12,
-        Refusal::BadTable => 13,
-        Refusal::NoEpoch => 14,
-        Refusal::Malformed => 15,
-        Refusal::NoGap => 16,
-        Refusal::Listed => 17,
-        Refusal::TableFull => 18,
-    }
-}
-
-// 01's number of an answer.
-pub fn number(a: Answer) -> u32
-    ensures { λ r. ⌜ r ≡ numberOf a ⌝ }
-{
-    match a {
-        Answer::Accepted(_) => 0,
-        Answer::Refused(r) => refusal_number(r),
-    }
-}
-
-// The count that an answer reports.
-pub fn count(a: Answer) -> usize
-    ensures { λ r. ⌜ r ≡ countOf a ⌝ }
-{
-    match a {
-        Answer::Accepted(n) => n,
-        Answer::Refused(_) => 0,
-    }
-}
 
 // Every slot keeps the layout. A rest that is no whole slot is not looked at.
 fn slots_ok(page: &[u8]) -> bool
@@ -120,11 +31,10 @@ fn slots_ok(page: &[u8]) -> bool
     while k < n {
         let at = SLOT * k;
         let end = at + SLOT;
-        if slots::slot_ok(&page[at..end]) {
-            k += 1;
-        } else {
+        if !slots::slot_ok(&page[at..end]) {
             return false;
         }
+        k += 1;
     }
     true
 }
@@ -195,55 +105,49 @@ fn lines_are_zero(page: &[u8]) -> bool
 pub fn log_ok(log: &[u8]) -> bool
     ensures { λ r. ⌜ r ≡ isLog (now (log .entry)) ⌝ }
 {
-    if page_ok(log) {
-        if page_rises(log) {
-            if log.len() < SLOT {
-                return false;
-            }
-            lines_are_zero(log)
-        } else {
-            false
-        }
-    } else {
-        false
+    if !page_ok(log) {
+        return false;
     }
+    if !page_rises(log) {
+        return false;
+    }
+    if log.len() < SLOT {
+        return false;
+    }
+    lines_are_zero(log)
 }
 
 // 1, 2; else the count of the page's slots.
 pub fn check_page(page: &[u8]) -> Answer
     ensures { λ r. ⌜ r ≡ checkPage (now (page .entry)) ⌝ }
 {
-    if page_ok(page) {
-        if page_rises(page) {
-            Answer::Accepted(page.len() / SLOT)
-        } else {
-            Answer::Refused(Refusal::NotRising)
-        }
-    } else {
-        Answer::Refused(Refusal::BadLayout)
+    if !page_ok(page) {
+        return Answer::Refused(Refusal::BadLayout);
     }
+    if !page_rises(page) {
+        return Answer::Refused(Refusal::NotRising);
+    }
+    Answer::Accepted(page.len() / SLOT)
 }
 
 // 3; else the count of the log's slots.
 pub fn check_log(log: &[u8]) -> Answer
     ensures { λ r. ⌜ r ≡ checkLog (now (log .entry)) ⌝ }
 {
-    if log_ok(log) {
-        Answer::Accepted(log.len() / SLOT)
-    } else {
-        Answer::Refused(Refusal::BadLog)
+    if !log_ok(log) {
+        return Answer::Refused(Refusal::BadLog);
     }
+    Answer::Accepted(log.len() / SLOT)
 }
 
 // 1; else one slot.
 pub fn check_slot(slot: &[u8]) -> Answer
     ensures { λ r. ⌜ r ≡ checkSlot (now (slot .entry)) ⌝ }
 {
-    if slot_ok(slot) {
-        Answer::Accepted(1)
-    } else {
-        Answer::Refused(Refusal::BadLayout)
+    if !slot_ok(slot) {
+        return Answer::Refused(Refusal::BadLayout);
     }
+    Answer::Accepted(1)
 }
 
 // The name of slot k, or none beyond the page.
@@ -255,7 +159,7 @@ pub fn name_of(page: &[u8], k: usize) -> Name
         let end = at + SLOT;
         slots::read_name(&page[at..end])
     } else {
-        names::empty()
+        name_values::empty()
     }
 }
 
@@ -289,16 +193,4 @@ pub fn find(page: &[u8], slot: &[u8]) -> Place
         }
     }
     Place::Gap(low)
-}
-
-// Writes src into out from p on.
-pub fn copy(out: &mut [u8], p: usize, src: &[u8])
-    requires { ⌜ p + length (now src) ≤ length (now out) ⌝ }
-    ensures { λ _. ⌜ now (out .exit) ≡ put (now (out .entry)) p (now (src .entry)) ⌝ }
-{
-    let mut i: usize = 0;
-    while i < src.len() {
-        out[p + i] = src[i];
-        i += 1;
-    }
 }

@@ -1,10 +1,7 @@
-pub mod Numbers
-pub mod Rows
-pub mod Sorts
-pub mod Zeros
-pub mod Inside
-pub mod Put
-pub mod Written
-pub mod Sign
+pub mod TuplesInBytes
+pub mod TupleTests
+pub mod ZeroTuples
+pub mod NameTests
+pub mod WrittenSlots
 pub mod RoundTrip
 pub mod Settled

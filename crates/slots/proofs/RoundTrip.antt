@@ -17,69 +17,38 @@ use Rattle.names.specs.declared.Tuple.{Tuple}
 use Rattle.names.specs.Ordering.{Row, _<ᶻ_, up, across, down}
 use Rattle.names.specs.Names.{limit, fits, within, m, isName}
 use Rattle.names.proofs.Validity.{Ordinary, Middle, plain, marker-m, marker-M, Ends, final, onward, name-valid, valid-ends}
-use Rattle.names.proofs.Laws.{and-0, and-1}
-use Rattle.slots.specs.Bytes.{Bytes, Octets, at16, at32, signed, unsigned, tupleAt, tuplesAt, tupleSize, allZero, bytes16, bytes32, tupleBytes, rowBytes}
-use Rattle.slots.specs.Slots.{Slot, headSize, slotSize, depthOf, nameOf, lineOf, slotOf, keepsSlot, slotBytes, isSlot}
-use Rattle.slots.proofs.Numbers.{fits16, fits32, signed-pos, signed-neg}
-use Rattle.slots.proofs.Rows.{length-tuplesAt, take-tuplesAt}
-use Rattle.slots.proofs.Inside.{name-is}
-use Rattle.slots.proofs.Written.{tuple-length, row-length}
+use Rattle.numbers.proofs.Bools.{and-0, and-1}
+use Rattle.numbers.specs.Bytes.{Bytes, Octets, at16, at32, signed, unsigned, allZero, bytes16, bytes32}
+use Rattle.slots.specs.Tuples.{tupleAt, tuplesAt, tupleSize, tupleBytes, rowBytes}
+use Rattle.slots.specs.Slots.{bytesOver, keepsOver, Slot, headSize, slotSize, depthOf, nameOf, lineOf, slotOf, keepsSlot, slotBytes, isSlot}
+use Rattle.numbers.proofs.ReadNumbers.{fits16, fits32}
+use Rattle.numbers.proofs.Lists.{next-to}
+use Rattle.numbers.proofs.NumberBytes.{here16, here32, at16-past, at32-past, sum16, back32}
+use Rattle.numbers.proofs.TwosComplement.{Word, high, low, unsigned-signed, signed-unsigned}
+use Rattle.numbers.proofs.Zeros.{all-zeros, zeros-zero}
+use Rattle.slots.proofs.TuplesInBytes.{length-tuplesAt, take-tuplesAt}
+use Rattle.slots.proofs.NameTests.{name-is}
+use Rattle.slots.proofs.WrittenSlots.{tuple-length, row-length}
 
 -- ── from bytes to a slot and back ──
-
-high16 : (x y : ℕ) → y < 256 → (x * 256 + y) / 256 ≡ x
-high16 x y h = omega arith
-
-low16 : (x y : ℕ) → y < 256 → (x * 256 + y) % 256 ≡ y
-low16 x y h = omega arith
-
-high32 : (x y : ℕ) → y < 65536 → (x * 65536 + y) / 65536 ≡ x
-high32 x y h = omega arith
-
-low32 : (x y : ℕ) → y < 65536 → (x * 65536 + y) % 65536 ≡ y
-low32 x y h = omega arith
-
-unsigned-signed : (n : ℕ) → n < 4294967296 → unsigned (signed n) ≡ n
-unsigned-signed n h = elim (decLt n 2147483648) [
-  | yes k ↦ ap unsigned (signed-pos n k)
-  | no k ↦ ap unsigned (signed-neg n (omega arith)) ∙ omega arith
-]
-
--- two parts that stand next to each other
-pub next-to : {A : Type 0} (s : List A) (p m n : ℕ) → take m (drop p s) ++ take n (drop (p + m) s) ≡ take (m + n) (drop p s)
-next-to s p m n = ap (λ (l : List _). take m (drop p s) ++ take n l) (sym (drop-drop m p s)) ∙ sym (take-add m n (drop p s))
 
 front-length : (x : Slot) → length (((length (x .name) ∷ 0 ∷ 0 ∷ 0 ∷ []) ++ bytes32 (x .line)) ++ rowBytes (x .name)) ≡ headSize + tupleSize * length (x .name)
 front-length x = length-append ((length (x .name) ∷ 0 ∷ 0 ∷ 0 ∷ []) ++ bytes32 (x .line)) (rowBytes (x .name)) ∙ ap (λ (n : ℕ). headSize + n) (row-length (x .name))
 
 -- a name of at most `limit` tuples fills a slot
 pub slot-length : (x : Slot) → length (x .name) ≤ limit → length (slotBytes x) ≡ slotSize
-unfolding slotBytes
+unfolding bytesOver
 slot-length x f =
     let e = front-length x in
     let z = length-replicate {A = ℕ} (tupleSize * (limit - length (x .name))) 0 in
     length-append (((length (x .name) ∷ 0 ∷ 0 ∷ 0 ∷ []) ++ bytes32 (x .line)) ++ rowBytes (x .name)) (replicate (tupleSize * (limit - length (x .name))) 0) ∙ omega arith
 
 module _ (s : Bytes) (k : Octets s) where
-  pub here16 : (p : ℕ) → p + 2 ≤ length s → bytes16 (at16 s p) ≡ take 2 (drop p s)
-  here16 p h =
-      let a : p < length s = omega arith in
-      let b : suc p < length s = omega arith in
-      let e : p + 1 ≡ suc p = omega arith in
-      (λ i. high16 (getD s p 0) (getD s (p + 1) 0) (k (p + 1)) i ∷ low16 (getD s p 0) (getD s (p + 1) 0) (k (p + 1)) i ∷ [])
-      ∙ rw (e, drop-cons s p 0 a, drop-cons s (suc p) 0 b)
-
-  pub here32 : (p : ℕ) → p + 4 ≤ length s → bytes32 (at32 s p) ≡ take 4 (drop p s)
-  here32 p h =
-      (λ i. bytes16 (high32 (at16 s p) (at16 s (p + 2)) (fits16 s (p + 2) k) i) ++ bytes16 (low32 (at16 s p) (at16 s (p + 2)) (fits16 s (p + 2) k) i))
-      ∙ (λ i. here16 p (omega arith) i ++ here16 (p + 2) (omega arith) i)
-      ∙ next-to s p 2 2
-
   here-tuple : (p : ℕ) → p + tupleSize ≤ length s → tupleBytes (tupleAt s p) ≡ take tupleSize (drop p s)
   unfolding tupleBytes tupleAt
   here-tuple p h =
-      (λ i. here16 p (omega arith) i ++ here16 (p + 2) (omega arith) i ++ here32 (p + 4) (omega arith) i
-      ++ (ap bytes32 (unsigned-signed (at32 s (p + 8)) (fits32 s (p + 8) k)) ∙ here32 (p + 8) (omega arith)) i)
+      (λ i. here16 s k p (omega arith) i ++ here16 s k (p + 2) (omega arith) i ++ here32 s k (p + 4) (omega arith) i
+      ++ (ap bytes32 (unsigned-signed (at32 s (p + 8)) (fits32 s (p + 8) k)) ∙ here32 s k (p + 8) (omega arith)) i)
       ∙ (λ i. next-to s p 2 2 i ++ take 4 (drop (p + 4) s) ++ take 4 (drop (p + 8) s))
       ∙ (λ i. next-to s p 4 4 i ++ take 4 (drop (p + 8) s))
       ∙ next-to s p 8 4
@@ -92,14 +61,6 @@ module _ (s : Bytes) (k : Octets s) where
       ∙ next-to s p tupleSize (tupleSize * n)
       ∙ ap (λ (j : ℕ). take j (drop p s)) (sym e)
 
--- zeros are nothing but zeros
-all-zeros : (l : Bytes) → allZero l ≡ true → l ≡ replicate (length l) 0
-all-zeros [] e = refl
-all-zeros (x ∷ l) e =
-    let a = eqb-true x 0 (and-0 (eqb x 0) (allZero l) e) in
-    let b = all-zeros l (and-1 (eqb x 0) (allZero l) e) in
-    λ i. a i ∷ b i
-
 -- what the check of a slot has found
 pub record Kept (s : Bytes) : Type 0 where
   pub long : length s ≡ slotSize
@@ -110,7 +71,7 @@ pub record Kept (s : Bytes) : Type 0 where
   pub rest : allZero (drop (headSize + tupleSize * depthOf s) s) ≡ true
 
 pub kept : (s : Bytes) → keepsSlot s ≡ true → Kept s
-unfolding keepsSlot
+unfolding keepsOver
 kept s e =
     let a = eqb (length s) slotSize in
     let b = within 1 limit (depthOf s) in
@@ -152,7 +113,7 @@ module _ (s : Bytes) (k : Octets s) (v : Kept s) where
       sym (all-zeros (drop (headSize + tupleSize * depthOf s) s) (v .rest) ∙ ap (λ (n : ℕ). replicate n 0) l)
 
   pub bytes-back : slotBytes (slotOf s) ≡ s
-  unfolding slotBytes
+  unfolding bytesOver
   bytes-back =
       let f = v .fit in
       let l = v .long in
@@ -175,53 +136,20 @@ module _ (s : Bytes) (k : Octets s) (v : Kept s) where
 
 -- reading past a front
 module _ (w y : Bytes) where
-  at16-past : (k : ℕ) → at16 (w ++ y) (length w + k) ≡ at16 y k
-  at16-past k =
-      let e = getD-append-add w y k 0 in
-      let f = ap (λ (n : ℕ). getD (w ++ y) n 0) (add-assoc (length w) k 1) ∙ getD-append-add w y (k + 1) 0 in
-      λ i. e i * 256 + f i
-
-  at32-past : (k : ℕ) → at32 (w ++ y) (length w + k) ≡ at32 y k
-  at32-past k =
-      let e = at16-past k in
-      let f = ap (at16 (w ++ y)) (add-assoc (length w) k 2) ∙ at16-past (k + 2) in
-      λ i. e i * 65536 + f i
-
   tuple-past : (k : ℕ) → tupleAt (w ++ y) (length w + k) ≡ tupleAt y k
   unfolding tupleAt
   tuple-past k =
-      let n = ap (at16 (w ++ y)) (add-assoc (length w) k 2) ∙ at16-past (k + 2) in
-      let s = ap (at32 (w ++ y)) (add-assoc (length w) k 4) ∙ at32-past (k + 4) in
-      let o = ap (at32 (w ++ y)) (add-assoc (length w) k 8) ∙ at32-past (k + 8) in
-      λ i. record { position = at16-past k i; node = n i; sequence = s i; offset = signed (o i) }
-
--- an offset of 32 bits
-pub data Word : ℤ → Type 0 where
-  high : {n : ℕ} → n < 2147483648 → Word (pos n)
-  low : {n : ℕ} → n < 2147483648 → Word (negsuc n)
-
-signed-unsigned : {z : ℤ} → Word z → signed (unsigned z) ≡ z
-signed-unsigned (high {n} h) = signed-pos n h
-signed-unsigned (low {n} h) =
-    let k : 2147483648 ≤ 4294967295 - n = omega arith in
-    let e : 4294967295 - (4294967295 - n) ≡ n = omega arith in
-    signed-neg (4294967295 - n) k ∙ ap negsuc e
-
-two : (v : ℕ) → v / 256 * 256 + v % 256 ≡ v
-two v = omega arith
-
-four : (v : ℕ) → v / 65536 * 65536 + v % 65536 ≡ v
-four v = omega arith
-
-pub back32 : (v : ℕ) (r : Bytes) → at32 (bytes32 v ++ r) 0 ≡ v
-back32 v r = (λ i. two (v / 65536) i * 65536 + two (v % 65536) i) ∙ four v
+      let n = ap (at16 (w ++ y)) (add-assoc (length w) k 2) ∙ at16-past w y (k + 2) in
+      let s = ap (at32 (w ++ y)) (add-assoc (length w) k 4) ∙ at32-past w y (k + 4) in
+      let o = ap (at32 (w ++ y)) (add-assoc (length w) k 8) ∙ at32-past w y (k + 8) in
+      λ i. record { position = at16-past w y k i; node = n i; sequence = s i; offset = signed (o i) }
 
 tuple-back : (t : Tuple) (r : Bytes) → Word (t .offset) → tupleAt (tupleBytes t ++ r) 0 ≡ t
 unfolding tupleAt tupleBytes
 tuple-back t r h =
     let s = back32 (t .sequence) [] in
     let o = ap signed (back32 (unsigned (t .offset)) []) ∙ signed-unsigned h in
-    λ i. record { position = two (t .position) i; node = two (t .node) i; sequence = s i; offset = o i }
+    λ i. record { position = sum16 (t .position) i; node = sum16 (t .node) i; sequence = s i; offset = o i }
 
 pub data Words : Row → Type 0 where
   none : Words []
@@ -267,10 +195,6 @@ unfolding isName
 name-long [] e = absurd (let z : _≡_ {A = ℕ} 0 1 = cc in omega arith)
 name-long (t ∷ a) e = omega arith
 
-zeros-zero : (n : ℕ) → allZero (replicate n 0) ≡ true
-zeros-zero zero = refl
-zeros-zero (suc n) = zeros-zero n
-
 module _ (x : Slot) (h : isSlot x ≡ true) where
   named : isName (x .name) ≡ true
   named = and-1 (leb (x .line) 4294967295) (isName (x .name)) (and-0 (leb (x .line) 4294967295 && isName (x .name)) (fits (x .name)) h)
@@ -279,7 +203,7 @@ module _ (x : Slot) (h : isSlot x ≡ true) where
   fit = leb-true (length (x .name)) limit (and-1 (leb (x .line) 4294967295 && isName (x .name)) (fits (x .name)) h)
 
   split : slotBytes x ≡ ((length (x .name) ∷ 0 ∷ 0 ∷ 0 ∷ []) ++ bytes32 (x .line)) ++ (rowBytes (x .name) ++ replicate (tupleSize * (limit - length (x .name))) 0)
-  unfolding slotBytes
+  unfolding bytesOver
   split = append-assoc ((length (x .name) ∷ 0 ∷ 0 ∷ 0 ∷ []) ++ bytes32 (x .line)) (rowBytes (x .name)) (replicate (tupleSize * (limit - length (x .name))) 0)
 
   name-back : nameOf (slotBytes x) ≡ x .name
@@ -298,7 +222,7 @@ module _ (x : Slot) (h : isSlot x ≡ true) where
   encoded-length = slot-length x fit
 
   pub encoded-keeps : keepsSlot (slotBytes x) ≡ true
-  unfolding keepsSlot slotBytes
+  unfolding keepsOver bytesOver
   encoded-keeps =
       let f = fit in
       let n = name-long (x .name) named in

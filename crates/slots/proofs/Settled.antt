@@ -3,9 +3,7 @@
 use mathlib.Core.Path.{_≡_}
 use denote.Ref.{now}
 use Rattle.names.specs.Names.{rowOf}
-use Rattle.names.proofs.Settled.{one}
-use Rattle.slots.proofs.read_u16.Reads as read-u16
-use Rattle.slots.proofs.read_u32.Reads as read-u32
+use Rattle.numbers.proofs.Settled.{one}
 use Rattle.slots.proofs.read_tuple.Reads as read-tuple
 use Rattle.slots.proofs.read_row.Reads as read-row
 use Rattle.slots.proofs.depth.Reads as depth
@@ -14,16 +12,9 @@ use Rattle.slots.proofs.read_name.Reads as read-name
 use Rattle.slots.proofs.compare_slots.Reads as compare-slots
 use Rattle.slots.proofs.name_at.Reads as name-at
 use Rattle.slots.proofs.slot_ok.Reads as slot-ok
-use Rattle.slots.proofs.write_u32.Reads as write-u32
 use Rattle.slots.proofs.write_tuple.Reads as write-tuple
 use Rattle.slots.proofs.write_row.Reads as write-row
 use Rattle.slots.proofs.write_slot.Reads as write-slot
-
-pub read-u16-settled : (κs : _) (a : _) (r : _) (s : _) (r' : _) (s' : _) → read-u16.Learnt κs a r s → read-u16.Learnt κs a r' s' → r ≡ r'
-read-u16-settled κs a r s r' s' p q = one p q
-
-pub read-u32-settled : (κs : _) (a : _) (r : _) (s : _) (r' : _) (s' : _) → read-u32.Learnt κs a r s → read-u32.Learnt κs a r' s' → r ≡ r'
-read-u32-settled κs a r s r' s' p q = one p q
 
 pub read-tuple-settled : (κs : _) (a : _) (r : _) (s : _) (r' : _) (s' : _) → read-tuple.Learnt κs a r s → read-tuple.Learnt κs a r' s' → r ≡ r'
 read-tuple-settled κs a r s r' s' p q = one p q
@@ -48,9 +39,6 @@ name-at-settled κs a r s r' s' p q = one p q
 
 pub slot-ok-settled : (κs : _) (a : _) (r : _) (s : _) (r' : _) (s' : _) → slot-ok.Learnt κs a r s → slot-ok.Learnt κs a r' s' → r ≡ r'
 slot-ok-settled κs a r s r' s' p q = one p q
-
-pub write-u32-settled : (κs : _) (a : _) (r : _) (s : _) (r' : _) (s' : _) → write-u32.Learnt κs a r s → write-u32.Learnt κs a r' s' → now (s .0) ≡ now (s' .0)
-write-u32-settled κs a r s r' s' p q = one p q
 
 pub write-tuple-settled : (κs : _) (a : _) (r : _) (s : _) (r' : _) (s' : _) → write-tuple.Learnt κs a r s → write-tuple.Learnt κs a r' s' → now (s .0) ≡ now (s' .0)
 write-tuple-settled κs a r s r' s' p q = one p q

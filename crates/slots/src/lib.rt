@@ -8,7 +8,8 @@ ghost use lib.ListN.{length, take, drop, getD, replicate};
 ghost use lib.IntN.{pos, negsuc};
 ghost use Rattle.names.specs.Ordering.{compareRows};
 ghost use Rattle.names.specs.Names.{limit, rowOf, ordinary, ordinaryFrom, marker, isName, withinℤ};
-ghost use Rattle.slots.specs.Bytes.{at16, at32, at64, signed, unsigned, tupleAt, tuplesAt, tupleSize, allZero, bytes32, tupleBytes, rowBytes, put};
+ghost use Rattle.numbers.specs.Bytes.{at16, at32, at64, signed, unsigned, allZero, bytes32, put};
+ghost use Rattle.slots.specs.Tuples.{tupleAt, tuplesAt, tupleSize, tupleBytes, rowBytes};
 ghost use Rattle.slots.specs.Slots.{headSize, slotSize, depthOf, lineOf, nameOf, keepsSlot, slotBytes};
 use names::LIMIT;
 use names::Name;
@@ -42,82 +43,14 @@ const HIGH_OFFSET: u32 = 2147483647;
 // Offsets whose bits are this or more are below 0.
 const NEGATIVE: u32 = 2147483648;
 
-fn wide16(x: u8) -> u16
-    ensures { λ r. ⌜ (r ≡ x) × (r < 256) ⌝ }
-{
-    x as u16
-}
-
-fn wide32(x: u8) -> u32
-    ensures { λ r. ⌜ (r ≡ x) × (r < 256) ⌝ }
-{
-    x as u32
-}
-
-fn wide64(x: u32) -> u64
-    ensures { λ r. ⌜ (r ≡ x) × (r < 4294967296) ⌝ }
-{
-    x as u64
-}
-
-// The big-endian number of two bytes.
-pub fn read_u16(s: &[u8], p: usize) -> u16
-    requires { ⌜ p + 2 ≤ length (now s) ⌝ }
-    ensures { λ r. ⌜ r ≡ at16 (now (s .entry)) p ⌝ }
-{
-    wide16(s[p]) * 256 + wide16(s[p + 1])
-}
-
-// Four bytes as one number, the lowest first: the compiler makes one load of this sum.
-fn read_low32(s: &[u8], p: usize) -> u32
-    requires { ⌜ p + 4 ≤ length (now s) ⌝ }
-    ensures { λ r. ⌜ r ≡ getD (now (s .entry)) p 0 + getD (now (s .entry)) (p + 1) 0 * 256 + getD (now (s .entry)) (p + 2) 0 * 65536 + getD (now (s .entry)) (p + 3) 0 * 16777216 ⌝ }
-{
-    wide32(s[p]) + wide32(s[p + 1]) * 256 + wide32(s[p + 2]) * 65536 + wide32(s[p + 3]) * 16777216
-}
-
-// The four bytes of a number turned round: the compiler makes a byte swap of this sum.
-fn turned32(x: u32) -> u32
-    ensures { λ r. ⌜ r ≡ x % 256 * 16777216 + x / 256 % 256 * 65536 + x / 65536 % 256 * 256 + x / 16777216 ⌝ }
-{
-    x % 256 * 16777216 + x / 256 % 256 * 65536 + x / 65536 % 256 * 256 + x / 16777216
-}
-
-// The big-endian number of four bytes.
-pub fn read_u32(s: &[u8], p: usize) -> u32
-    requires { ⌜ p + 4 ≤ length (now s) ⌝ }
-    ensures { λ r. ⌜ r ≡ at32 (now (s .entry)) p ⌝ }
-{
-    turned32(read_low32(s, p))
-}
-
-// The big-endian number of eight bytes: position, node and sequence of a tuple at once.
-fn read_u64(s: &[u8], p: usize) -> u64
-    requires { ⌜ p + 8 ≤ length (now s) ⌝ }
-    ensures { λ r. ⌜ r ≡ at64 (now (s .entry)) p ⌝ }
-{
-    wide64(read_u32(s, p)) * 4294967296 + wide64(read_u32(s, p + 4))
-}
-
-// "offsets in two's complement"
-fn to_signed(v: u32) -> i32
-    ensures { λ r. ⌜ r ≡ signed v ⌝ }
-{
-    if v < NEGATIVE {
-        return v as i32;
-    }
-    let low = 4294967295 - v;
-    -1 - (low as i32)
-}
-
 pub fn read_tuple(s: &[u8], p: usize) -> Tuple
     requires { ⌜ p + tupleSize ≤ length (now s) ⌝ }
     ensures { λ r. ⌜ r ≡ tupleAt (now (s .entry)) p ⌝ }
 {
-    let position = read_u16(s, p);
-    let node = read_u16(s, p + NODE);
-    let sequence = read_u32(s, p + SEQUENCE);
-    let offset = to_signed(read_u32(s, p + OFFSET));
+    let position = numbers::read_u16(s, p);
+    let node = numbers::read_u16(s, p + NODE);
+    let sequence = numbers::read_u32(s, p + SEQUENCE);
+    let offset = numbers::to_signed(numbers::read_u32(s, p + OFFSET));
     Tuple {
         position,
         node,
@@ -160,7 +93,7 @@ pub fn read_line(s: &[u8]) -> u32
     requires { ⌜ length (now s) ≡ slotSize ⌝ }
     ensures { λ r. ⌜ r ≡ lineOf (now (s .entry)) ⌝ }
 {
-    read_u32(s, LINE)
+    numbers::read_u32(s, LINE)
 }
 
 // The name in a slot.
@@ -191,17 +124,17 @@ fn ordinary_at(s: &[u8], p: usize) -> bool
     requires { ⌜ p + tupleSize ≤ length (now s) ⌝ }
     ensures { λ r. ⌜ r ≡ ordinary (tupleAt (now (s .entry)) p) ⌝ }
 {
-    let position = read_u16(s, p);
+    let position = numbers::read_u16(s, p);
     if position < 1 {
         return false;
     }
     if LAST_POSITION < position {
         return false;
     }
-    if read_u16(s, p + NODE) < 1 {
+    if numbers::read_u16(s, p + NODE) < 1 {
         return false;
     }
-    offset_ok(read_u32(s, p + OFFSET))
+    offset_ok(numbers::read_u32(s, p + OFFSET))
 }
 
 // An ordinary tuple with an offset of at least 0 stands at p.
@@ -210,7 +143,7 @@ fn last_at(s: &[u8], p: usize) -> bool
     ensures { λ r. ⌜ r ≡ ordinaryFrom (pos 0) (tupleAt (now (s .entry)) p) ⌝ }
 {
     if ordinary_at(s, p) {
-        read_u32(s, p + OFFSET) < NEGATIVE
+        numbers::read_u32(s, p + OFFSET) < NEGATIVE
     } else {
         false
     }
@@ -221,8 +154,8 @@ fn marker_at(s: &[u8], p: usize) -> bool
     requires { ⌜ p + tupleSize ≤ length (now s) ⌝ }
     ensures { λ r. ⌜ r ≡ marker (tupleAt (now (s .entry)) p) ⌝ }
 {
-    let front = read_u64(s, p);
-    let offset = read_u32(s, p + OFFSET);
+    let front = numbers::read_u64(s, p);
+    let offset = numbers::read_u32(s, p + OFFSET);
     if front == 0 {
         return offset == 0;
     }
@@ -270,8 +203,8 @@ fn zero_at(s: &[u8], p: usize) -> bool
     requires { ⌜ p + tupleSize ≤ length (now s) ⌝ }
     ensures { λ r. ⌜ r ≡ allZero (take tupleSize (drop p (now (s .entry)))) ⌝ }
 {
-    if read_u64(s, p) == 0 {
-        read_u32(s, p + OFFSET) == 0
+    if numbers::read_u64(s, p) == 0 {
+        numbers::read_u32(s, p + OFFSET) == 0
     } else {
         false
     }
@@ -310,7 +243,7 @@ pub fn slot_ok(s: &[u8]) -> bool
     if s[1] != 0 {
         return false;
     }
-    if read_u16(s, 2) != 0 {
+    if numbers::read_u16(s, 2) != 0 {
         return false;
     }
     if name_at(s, HEAD, d) {
@@ -320,35 +253,13 @@ pub fn slot_ok(s: &[u8]) -> bool
     }
 }
 
-// "All numbers are big-endian": four bytes from p on. The four stores of the number turned round are one store.
-pub fn write_u32(out: &mut [u8], p: usize, v: u32)
-    requires { ⌜ p + 4 ≤ length (now out) ⌝ }
-    ensures { λ _. ⌜ now (out .exit) ≡ put (now (out .entry)) p (bytes32 v) ⌝ }
-{
-    let x = turned32(v);
-    out[p] = (x % 256) as u8;
-    out[p + 1] = (x / 256 % 256) as u8;
-    out[p + 2] = (x / 65536 % 256) as u8;
-    out[p + 3] = (x / 16777216) as u8;
-}
-
-// "offsets in two's complement"
-fn to_unsigned(z: i32) -> u32
-    ensures { λ r. ⌜ r ≡ unsigned z ⌝ }
-{
-    if 0 <= z {
-        return z as u32;
-    }
-    4294967295 - ((-1 - z) as u32)
-}
-
 pub fn write_tuple(out: &mut [u8], p: usize, t: Tuple)
     requires { ⌜ p + tupleSize ≤ length (now out) ⌝ }
     ensures { λ _. ⌜ now (out .exit) ≡ put (now (out .entry)) p (tupleBytes t) ⌝ }
 {
-    write_u32(out, p, (t.position as u32) * 65536 + (t.node as u32));
-    write_u32(out, p + SEQUENCE, t.sequence);
-    write_u32(out, p + OFFSET, to_unsigned(t.offset));
+    numbers::write_u32(out, p, (t.position as u32) * 65536 + (t.node as u32));
+    numbers::write_u32(out, p + SEQUENCE, t.sequence);
+    numbers::write_u32(out, p + OFFSET, numbers::to_unsigned(t.offset));
 }
 
 // The tuples of a name, one after the other from p on.
@@ -365,26 +276,14 @@ pub fn write_row(out: &mut [u8], p: usize, a: Name)
     }
 }
 
-// Zeros for n words of four bytes from p on.
-fn write_zeros(out: &mut [u8], p: usize, n: usize)
-    requires { ⌜ p + 4 * n ≤ length (now out) ⌝ }
-    ensures { λ _. ⌜ now (out .exit) ≡ put (now (out .entry)) p (replicate (4 * n) 0) ⌝ }
-{
-    let mut k: usize = 0;
-    while k < n {
-        write_u32(out, p + 4 * k, 0);
-        k += 1;
-    }
-}
-
 // A slot from p on: its depth, three zeros, the line number, the name's tuples, and zeros.
 pub fn write_slot(out: &mut [u8], p: usize, line: u32, a: Name)
     requires { ⌜ p + slotSize ≤ length (now out) ⌝ }
     ensures { λ _. ⌜ now (out .exit) ≡ put (now (out .entry)) p (slotBytes (record { line = line; name = rowOf a })) ⌝ }
 {
     let d = names::tuples_in(a);
-    write_u32(out, p, (d as u32) * 16777216);
-    write_u32(out, p + LINE, line);
+    numbers::write_u32(out, p, (d as u32) * 16777216);
+    numbers::write_u32(out, p + LINE, line);
     write_row(out, p + HEAD, a);
-    write_zeros(out, p + HEAD + TUPLE * d, 3 * (LIMIT - d));
+    numbers::write_zeros(out, p + HEAD + TUPLE * d, 3 * (LIMIT - d));
 }

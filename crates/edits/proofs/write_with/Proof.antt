@@ -1,5 +1,5 @@
 -- `edits::write_with` meets its contract. Assumes nothing.
-use Rattle.slots.specs.Bytes.{Bytes, put}
+use Rattle.numbers.specs.Bytes.{Bytes, put}
 use lib.ListN.{length-drop, length, take, drop, length-append, length-take}
 use lib.Seq.{take-all, length-take-le}
 use mathlib.Core.Path.{_≡_, _∙_, sym, ap}
@@ -8,7 +8,7 @@ use Prim.Native.Nat.{_+_, _*_, _-_}
 use native.Mathlib.Omega.{arith}
 use denote.Ref.{now}
 use Rattle.slots.specs.Slots.{slotSize}
-use Rattle.slots.proofs.Put.{put-more}
+use Rattle.numbers.proofs.Put.{put-more}
 use borrow.Author.Needs.{needs}
 use Rattle.edits.proofs.write_with.Statement.{statement}
 use Rattle.edits.proofs.write_with.Tie as tie
@@ -17,10 +17,14 @@ mul-p : tie.Need-mul-p
 mul-p c = search needs
 
 slice-aggregate-copy : tie.Need-slice-aggregate-copy
-slice-aggregate-copy c = sym (length-take-le (slotSize * c .before .before .before .before .before .args .k) (now (c .before .before .before .before .before .args .page)) (c .before .before .before .before .before .pre .0))
+slice-aggregate-copy c =
+    let start : tie.Start = search needs in
+    sym (length-take-le (slotSize * start .args .k) (now (start .args .page)) (start .pre .0))
 
 copy-requires : tie.Need-copy-requires
-copy-requires c κs = omega (arith, length-take (slotSize * c .before .before .before .before .before .args .k) (now (c .before .before .before .before .before .args .page)))
+copy-requires c κs =
+    let start : tie.Start = search needs in
+    omega (arith, length-take (slotSize * start .args .k) (now (start .args .page)))
 
 copy-requires-2 : tie.Need-copy-requires-2
 copy-requires-2 c κs = search needs
@@ -45,17 +49,21 @@ same-length c = search needs
 
 returns : tie.Need-returns
 returns c =
-    let o = now (c .before .before .before .before .before .before .before .before .before .before .before .before .before .before .before .before .before .args .out) in
-    let s = now (c .before .before .before .before .before .before .before .before .before .before .before .before .before .before .before .before .before .args .page) in
-    let x = now (c .before .before .before .before .before .before .before .before .before .before .before .before .before .before .before .before .before .args .slot) in
-    let p = slotSize * c .before .before .before .before .before .before .before .before .before .before .before .before .before .before .before .before .before .args .k in
-    let l = length-take-le p s (c .before .before .before .before .before .before .before .before .before .before .before .before .before .before .before .before .before .pre .0) in
+    let start : tie.Start = search needs in
+    let after-copy : tie.After-copy = search needs in
+    let after-copy2 : tie.After-copy2 = search needs in
+    let after-copy3 : tie.After-copy3 = search needs in
+    let o = now (start .args .out) in
+    let s = now (start .args .page) in
+    let x = now (start .args .slot) in
+    let p = slotSize * start .args .k in
+    let l = length-take-le p s (start .pre .0) in
     let q : p ≡ 0 + length (take p s) = omega (arith, l) in
     let a = length-append (take p s) x in
     let r : p + length x ≡ 0 + length (take p s ++ x) = omega (arith, l, a) in
     let t : take (length s - p) (drop p s) ≡ drop p s = take-all (length s - p) (drop p s) (omega (arith, length-drop p s)) in
-    let d₁ = put-more o 0 (omega arith) (take p s) x (c .before .before .before .before .before .before .before .before .before .before .before .copy .ensures) q (c .before .before .before .before .before .before .before .copy2 .ensures) in
-    put-more o 0 (omega arith) (take p s ++ x) (drop p s) d₁ r (c .before .before .copy3 .ensures ∙ ap (λ (w : Bytes). put (c .before .before .before .before .before .before .before .copy2 .last .0) (p + length x) w) t)
+    let d₁ = put-more o 0 (omega arith) (take p s) x (after-copy .copy .ensures) q (after-copy2 .copy2 .ensures) in
+    put-more o 0 (omega arith) (take p s ++ x) (drop p s) d₁ r (after-copy3 .copy3 .ensures ∙ ap (λ (w : Bytes). put (after-copy2 .copy2 .last .0) (p + length x) w) t)
 
 pub write-with-spec : {M : Type 1} → statement M
 write-with-spec =

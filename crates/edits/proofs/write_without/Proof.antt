@@ -1,5 +1,5 @@
 -- `edits::write_without` meets its contract. Assumes nothing.
-use Rattle.slots.specs.Bytes.{Bytes, put}
+use Rattle.numbers.specs.Bytes.{Bytes, put}
 use lib.ListN.{length-drop, length, take, drop, length-take}
 use lib.Seq.{take-all, length-take-le}
 use mathlib.Core.Path.{_≡_, _∙_, sym, ap}
@@ -7,7 +7,7 @@ use Prim.Native.Nat.{_+_, _*_, _-_}
 use native.Mathlib.Omega.{arith}
 use denote.Ref.{now}
 use Rattle.slots.specs.Slots.{slotSize}
-use Rattle.slots.proofs.Put.{put-more}
+use Rattle.numbers.proofs.Put.{put-more}
 use borrow.Author.Needs.{needs}
 use Rattle.edits.proofs.write_without.Statement.{statement}
 use Rattle.edits.proofs.write_without.Tie as tie
@@ -19,10 +19,14 @@ add-q : tie.Need-add-q
 add-q c = search needs
 
 slice-aggregate-copy : tie.Need-slice-aggregate-copy
-slice-aggregate-copy c = sym (length-take-le (slotSize * c .before .before .before .before .args .k) (now (c .before .before .before .before .args .page)) (omega arith))
+slice-aggregate-copy c =
+    let start : tie.Start = search needs in
+    sym (length-take-le (slotSize * start .args .k) (now (start .args .page)) (omega arith))
 
 copy-requires : tie.Need-copy-requires
-copy-requires c κs = omega (arith, length-take (slotSize * c .before .before .before .before .args .k) (now (c .before .before .before .before .args .page)))
+copy-requires c κs =
+    let start : tie.Start = search needs in
+    omega (arith, length-take (slotSize * start .args .k) (now (start .args .page)))
 
 sub-copy : tie.Need-sub-copy
 sub-copy c = search needs
@@ -41,13 +45,18 @@ same-length c = search needs
 
 returns : tie.Need-returns
 returns c =
-    let o = now (c .before .before .before .before .before .before .before .before .before .before .before .before .args .out) in
-    let s = now (c .before .before .before .before .before .before .before .before .before .before .before .before .args .page) in
-    let p = slotSize * c .before .before .before .before .before .before .before .before .before .before .before .before .args .k in
+    let start : tie.Start = search needs in
+    let after-copy : tie.After-copy = search needs in
+    let after-copy2 : tie.After-copy2 = search needs in
+    let o = now (start .args .out) in
+    let s = now (start .args .page) in
+    let p = slotSize * start .args .k in
     let l = length-take-le p s (omega arith) in
     let q : p ≡ 0 + length (take p s) = omega (arith, l) in
-    let t : take (length s - (p + slotSize)) (drop (p + slotSize) s) ≡ drop (p + slotSize) s = take-all (length s - (p + slotSize)) (drop (p + slotSize) s) (omega (arith, length-drop (p + slotSize) s)) in
-    put-more o 0 (omega arith) (take p s) (drop (p + slotSize) s) (c .before .before .before .before .before .before .before .copy .ensures) q (c .before .before .copy2 .ensures ∙ ap (λ (w : Bytes). put (c .before .before .before .before .before .before .before .copy .last .0) p w) t)
+    let d = drop (p + slotSize) s in
+    let t : take (length s - (p + slotSize)) d ≡ d = take-all (length s - (p + slotSize)) d (omega (arith, length-drop (p + slotSize) s)) in
+    let f = after-copy2 .copy2 .ensures ∙ ap (λ (w : Bytes). put (after-copy .copy .last .0) p w) t in
+    put-more o 0 (omega arith) (take p s) d (after-copy .copy .ensures) q f
 
 pub write-without-spec : {M : Type 1} → statement M
 write-without-spec =

@@ -1,17 +1,17 @@
 -- `epochs::add` meets its contract. Assumes nothing.
 use mathlib.Core.Path.{_≡_, sym, _∙_}
-use Prim.Native.Nat.{_<_, _≤_}
+use Prim.Native.Nat.{_+_}
 use native.Mathlib.Omega.{arith}
 use denote.Ref.{now}
 use lib.ListN.{length}
-use borrow.Author.Tests.{lt-leb, lt-ltb, le-ltb}
-use Rattle.pages.specs.declared.Refusal.the-variants.{NoAuthor, BadTable, NoEpoch}
-use Rattle.pages.proofs.Outcomes.{refused}
-use Rattle.epochs.specs.Tables.{entriesOf}
-use Rattle.epochs.specs.Calls.{adding}
-use Rattle.epochs.proofs.Encoded.{length-entries}
-use Rattle.pages.specs.Answers.{refuse}
+use borrow.Author.Tests.{not-true, not-false}
 use borrow.Author.Needs.{needs}
+use Rattle.numbers.proofs.Put.{put-more}
+use Rattle.answers.proofs.Outcomes.{refused, accepted}
+use Rattle.epoch_tree.specs.Tables.{entryBytes}
+use Rattle.epochs.specs.Calls.{entryBy}
+use Rattle.epochs.proofs.LoopTurns.{listed-all}
+use Rattle.epochs.proofs.AddOutcomes.{bad-table, no-epoch, no-author, listed-refused, full-refused, short-refused, done}
 use Rattle.epochs.proofs.add.Statement.{statement}
 use Rattle.epochs.proofs.add.Tie as tie
 
@@ -19,33 +19,126 @@ table-ok-requires : tie.Need-table-ok-requires
 table-ok-requires c κs = search needs
 
 returns : tie.Need-returns
-unfolding adding
 returns c =
-    let l : length (entriesOf (now (c .before .before .before .before .before .args .table))) ≤ (c .before .before .before .before .before .args .parent) = omega (arith, length-entries (now (c .before .before .before .before .before .args .table))) in
-    let e : adding (now (c .before .before .before .before .before .args .table)) (c .before .before .before .before .before .args .parent) (c .before .before .before .before .before .args .author) (length (now (c .before .before .before .before .before .args .out))) ≡ refuse NoEpoch = simp (sym (c .before .before .table-ok .ensures) ∙ c .before .if1 .taken, le-ltb (c .before .before .before .before .before .args .parent) (length (entriesOf (now (c .before .before .before .before .before .args .table)))) l) in
-    refused _ _ _ e
+    let start : tie.Start = search needs in
+    let asked : tie.After-table-ok = search needs in
+    let bad = sym (asked .table-ok .ensures) ∙ not-true (asked .table-ok .result) (c .if1 .taken) in
+    refused _ _ _ (bad-table (now (start .args .table)) (start .args .parent) (start .args .author) (length (now (start .args .out))) bad)
 
 returns-2 : tie.Need-returns-2
-unfolding adding
 returns-2 c =
-    let l : (c .before .before .before .before .before .before .before .args .parent) < length (entriesOf (now (c .before .before .before .before .before .before .before .args .table))) = omega (arith, length-entries (now (c .before .before .before .before .before .before .before .args .table))) in
-    let e : adding (now (c .before .before .before .before .before .before .before .args .table)) (c .before .before .before .before .before .before .before .args .parent) (c .before .before .before .before .before .before .before .args .author) (length (now (c .before .before .before .before .before .before .before .args .out))) ≡ refuse NoAuthor = simp (sym (c .before .before .before .before .table-ok .ensures) ∙ c .before .before .before .if1 .taken, lt-ltb (c .before .before .before .before .before .before .before .args .parent) (length (entriesOf (now (c .before .before .before .before .before .before .before .args .table)))) l, lt-leb 1 ((c .before .before .before .before .before .before .before .args .author) .node) (c .if3 .taken)) in
-    refused _ _ _ e
+    let start : tie.Start = search needs in
+    let asked : tie.After-table-ok = search needs in
+    let good : tie.Else1 = search needs in
+    let kept = sym (asked .table-ok .ensures) ∙ not-false (asked .table-ok .result) (good .if1 .left) in
+    let room = length (now (start .args .out)) in
+    refused _ _ _ (no-epoch (now (start .args .table)) (start .args .parent) (start .args .author) room kept (c .if2 .taken))
 
-add-under-requires : tie.Need-add-under-requires
-add-under-requires c κs = (sym (c .before .before .before .before .before .table-ok .ensures) ∙ c .before .before .before .before .if1 .taken, c .before .before .before .if2 .left, c .before .if3 .left)
+returns-3 : tie.Need-returns-3
+returns-3 c =
+    let start : tie.Start = search needs in
+    let asked : tie.After-table-ok = search needs in
+    let good : tie.Else1 = search needs in
+    let kept = sym (asked .table-ok .ensures) ∙ not-false (asked .table-ok .result) (good .if1 .left) in
+    let inside : tie.Else2 = search needs in
+    let room = length (now (start .args .out)) in
+    refused _ _ _ (no-author (now (start .args .table)) (start .args .parent) (start .args .author) room kept (inside .if2 .left) (c .if3 .taken))
+
+is-listed-requires : tie.Need-is-listed-requires
+is-listed-requires c κs = search needs
+
+returns-4 : tie.Need-returns-4
+returns-4 c =
+    let start : tie.Start = search needs in
+    let asked : tie.After-table-ok = search needs in
+    let good : tie.Else1 = search needs in
+    let kept = sym (asked .table-ok .ensures) ∙ not-false (asked .table-ok .result) (good .if1 .left) in
+    let inside : tie.Else2 = search needs in
+    let named : tie.Else3 = search needs in
+    let among : tie.After-is-listed = search needs in
+    let table = now (start .args .table) in
+    let author = start .args .author in
+    let parent = start .args .parent in
+    let l = sym (listed-all table author parent) ∙ sym (among .is-listed .ensures) in
+    let room = length (now (start .args .out)) in
+    refused _ _ _ (listed-refused table parent author room kept (inside .if2 .left) (named .if3 .left) (l ∙ c .if4 .taken))
+
+returns-5 : tie.Need-returns-5
+returns-5 c =
+    let start : tie.Start = search needs in
+    let asked : tie.After-table-ok = search needs in
+    let good : tie.Else1 = search needs in
+    let kept = sym (asked .table-ok .ensures) ∙ not-false (asked .table-ok .result) (good .if1 .left) in
+    let inside : tie.Else2 = search needs in
+    let named : tie.Else3 = search needs in
+    let among : tie.After-is-listed = search needs in
+    let table = now (start .args .table) in
+    let author = start .args .author in
+    let parent = start .args .parent in
+    let l = sym (listed-all table author parent) ∙ sym (among .is-listed .ensures) in
+    let room = length (now (start .args .out)) in
+    let new : tie.Else4 = search needs in
+    refused _ _ _ (full-refused table parent author room kept (inside .if2 .left) (named .if3 .left) (l ∙ new .if4 .left) (c .if5 .taken))
+
+add-if6 : tie.Need-add-if6
+add-if6 c = search needs
+
+returns-6 : tie.Need-returns-6
+returns-6 c =
+    let start : tie.Start = search needs in
+    let asked : tie.After-table-ok = search needs in
+    let good : tie.Else1 = search needs in
+    let kept = sym (asked .table-ok .ensures) ∙ not-false (asked .table-ok .result) (good .if1 .left) in
+    let inside : tie.Else2 = search needs in
+    let named : tie.Else3 = search needs in
+    let among : tie.After-is-listed = search needs in
+    let table = now (start .args .table) in
+    let author = start .args .author in
+    let parent = start .args .parent in
+    let l = sym (listed-all table author parent) ∙ sym (among .is-listed .ensures) in
+    let room = length (now (start .args .out)) in
+    let new : tie.Else4 = search needs in
+    let free : tie.Else5 = search needs in
+    let short = short-refused table parent author room kept (inside .if2 .left) (named .if3 .left) (l ∙ new .if4 .left) (free .if5 .left) in
+    refused _ _ _ (short (c .if6 .taken))
+
+copy-requires : tie.Need-copy-requires
+copy-requires c κs = search needs
+
+write-entry-requires : tie.Need-write-entry-requires
+write-entry-requires c κs = search needs
+
+add-t15 : tie.Need-add-t15
+add-t15 c = search needs
 
 same-length : tie.Need-same-length
 same-length c = search needs
 
-returns-3 : tie.Need-returns-3
-returns-3 c = search needs
-
-returns-4 : tie.Need-returns-4
-unfolding adding
-returns-4 c =
-    let e : adding (now (c .before .before .before .before .args .table)) (c .before .before .before .before .args .parent) (c .before .before .before .before .args .author) (length (now (c .before .before .before .before .args .out))) ≡ refuse BadTable = simp (sym (c .before .table-ok .ensures) ∙ c .if1 .left) in
-    refused _ _ _ e
+returns-7 : tie.Need-returns-7
+returns-7 c =
+    let wrote : tie.After-write-entry = search needs in
+    let copied : tie.After-copy = search needs in
+    let fits : tie.Else6 = search needs in
+    let free : tie.Else5 = search needs in
+    let new : tie.Else4 = search needs in
+    let among : tie.After-is-listed = search needs in
+    let named : tie.Else3 = search needs in
+    let inside : tie.Else2 = search needs in
+    let good : tie.Else1 = search needs in
+    let asked : tie.After-table-ok = search needs in
+    let bytes : tie.After-shared-slice-known = search needs in
+    let start : tie.Start = search needs in
+    let kept = sym (asked .table-ok .ensures) ∙ not-false (asked .table-ok .result) (good .if1 .left) in
+    let table = now (start .args .table) in
+    let author = start .args .author in
+    let parent = start .args .parent in
+    let o = now (start .args .out) in
+    let l = sym (listed-all table author parent) ∙ sym (among .is-listed .ensures) in
+    let all = done table parent author (length o) kept (inside .if2 .left) (named .if3 .left) (l ∙ new .if4 .left) (free .if5 .left) in
+    let outcome = all (λ i. bytes .shared-slice-known .given i .fits) (fits .if6 .left) in
+    let e = entryBytes (entryBy author parent) in
+    let z : length table ≡ 0 + length table = omega arith in
+    accepted _ _ _ o _ outcome (put-more o 0 (omega arith) table e (copied .copy .ensures) z (wrote .write-entry .ensures))
 
 pub add-spec : {M : Type 1} → statement M
 add-spec =
@@ -54,7 +147,14 @@ add-spec =
     table-ok-requires
     returns
     returns-2
-    add-under-requires
-    same-length
     returns-3
-    returns-4)
+    is-listed-requires
+    returns-4
+    returns-5
+    add-if6
+    returns-6
+    copy-requires
+    write-entry-requires
+    add-t15
+    same-length
+    returns-7)

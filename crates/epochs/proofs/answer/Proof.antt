@@ -15,7 +15,9 @@ returns : tie.Need-returns
 returns c = search needs
 
 returns-2 : tie.Need-returns-2
-returns-2 c = ap answerOf (sym (c .before .n .given .1))
+returns-2 c =
+    let refusal : tie.After-n = search needs in
+    ap answerOf (sym (refusal .n .given .1))
 
 pub answer-spec : {M : Type 1} → statement M
 answer-spec = tie.close (tie.spec enum-told enum-known-n returns returns-2)

@@ -34,8 +34,15 @@ first-of-requires c κs = search needs
 
 returns : tie.Need-returns
 returns c =
-    c .first-of .ensures
-    ∙ (λ z. then ((c .before .before .before .before .compare-numbers .ensures ∙ (λ w. compareℕ (c .before .before .before .before .before .before .node-of .ensures w) (c .before .before .before .before .before .node-of2 .ensures w))) z) ((c .before .compare-numbers2 .ensures ∙ (λ w. compareℕ (c .before .before .before .sequence-of .ensures w) (c .before .before .sequence-of2 .ensures w))) z))
+    let node-i : tie.After-node-of = search needs in
+    let node-j : tie.After-node-of2 = search needs in
+    let nodes : tie.After-compare-numbers = search needs in
+    let sequence-i : tie.After-sequence-of = search needs in
+    let sequence-j : tie.After-sequence-of2 = search needs in
+    let sequences : tie.After-compare-numbers2 = search needs in
+    let by-node = nodes .compare-numbers .ensures ∙ (λ w. compareℕ (node-i .node-of .ensures w) (node-j .node-of2 .ensures w)) in
+    let by-sequence = sequences .compare-numbers2 .ensures ∙ (λ w. compareℕ (sequence-i .sequence-of .ensures w) (sequence-j .sequence-of2 .ensures w)) in
+    c .first-of .ensures ∙ (λ z. then (by-node z) (by-sequence z))
 
 pub compare-keys-spec : {M : Type 1} → statement M
 compare-keys-spec =

@@ -2,7 +2,7 @@
 use mathlib.Core.Path.{sym, _∙_}
 use denote.Ref.{now}
 use borrow.Author.Tests.{eq-eqb, ne-eqb}
-use Rattle.epochs.specs.Tables.{entryAt, entriesOf}
+use Rattle.epoch_tree.specs.Tables.{entryAt, entriesOf}
 use borrow.Author.Needs.{needs}
 use Rattle.epochs.proofs.first_ok.Statement.{statement}
 use Rattle.epochs.proofs.first_ok.Tie as tie
@@ -12,24 +12,38 @@ node-of-requires c κs = search needs
 
 returns : tie.Need-returns
 returns c =
-    let e = entryAt (entriesOf (now (c .before .before .before .args .table))) 0 in
-    simp (ne-eqb (e .node) 0 (λ q. c .if1 .taken (c .before .node-of .ensures ∙ q)))
+    let start : tie.Start = search needs in
+    let node : tie.After-node-of = search needs in
+    let e = entryAt (entriesOf (now (start .args .table))) 0 in
+    simp (ne-eqb (e .node) 0 (λ q. c .if1 .taken (node .node-of .ensures ∙ q)))
 
 sequence-of-requires : tie.Need-sequence-of-requires
 sequence-of-requires c κs = search needs
 
 returns-2 : tie.Need-returns-2
 returns-2 c =
-    let e = entryAt (entriesOf (now (c .before .before .before .before .before .args .table))) 0 in
-    simp (eq-eqb (e .node) 0 (sym (c .before .before .before .node-of .ensures) ∙ c .before .before .if1 .left), ne-eqb (e .sequence) 0 (λ q. c .if2 .taken (c .before .sequence-of .ensures ∙ q)))
+    let start : tie.Start = search needs in
+    let node : tie.After-node-of = search needs in
+    let zero : tie.Else1 = search needs in
+    let sequence : tie.After-sequence-of = search needs in
+    let e = entryAt (entriesOf (now (start .args .table))) 0 in
+    let no-node = eq-eqb (e .node) 0 (sym (node .node-of .ensures) ∙ zero .if1 .left) in
+    simp (no-node, ne-eqb (e .sequence) 0 (λ q. c .if2 .taken (sequence .sequence-of .ensures ∙ q)))
 
 parent-of-requires : tie.Need-parent-of-requires
 parent-of-requires c κs = search needs
 
 returns-3 : tie.Need-returns-3
 returns-3 c =
-    let e = entryAt (entriesOf (now (c .before .before .before .before .before .before .args .table))) 0 in
-    simp (eq-eqb (e .node) 0 (sym (c .before .before .before .before .node-of .ensures) ∙ c .before .before .before .if1 .left), eq-eqb (e .sequence) 0 (sym (c .before .before .sequence-of .ensures) ∙ c .before .if2 .left), c .parent-of .ensures)
+    let start : tie.Start = search needs in
+    let node : tie.After-node-of = search needs in
+    let zero : tie.Else1 = search needs in
+    let sequence : tie.After-sequence-of = search needs in
+    let zeros : tie.Else2 = search needs in
+    let e = entryAt (entriesOf (now (start .args .table))) 0 in
+    let no-node = eq-eqb (e .node) 0 (sym (node .node-of .ensures) ∙ zero .if1 .left) in
+    let no-sequence = eq-eqb (e .sequence) 0 (sym (sequence .sequence-of .ensures) ∙ zeros .if2 .left) in
+    simp (no-node, no-sequence, c .parent-of .ensures)
 
 pub first-ok-spec : {M : Type 1} → statement M
 first-ok-spec =

@@ -20,13 +20,22 @@ enum-told-3 : tie.Need-enum-told-3
 enum-told-3 c = search needs
 
 returns : tie.Need-returns
-returns c = ap (λ (o : Order). cond (isLess o) (c .before .before .before .before .args .j) (c .before .before .before .before .args .i)) (sym (c .enum-told .given .1) ∙ c .before .before .compare-epochs .ensures)
+returns c =
+    let start : tie.Start = search needs in
+    let order : tie.After-compare-epochs = search needs in
+    ap (λ (o : Order). cond (isLess o) (start .args .j) (start .args .i)) (sym (c .enum-told .given .1) ∙ order .compare-epochs .ensures)
 
 returns-2 : tie.Need-returns-2
-returns-2 c = ap (λ (o : Order). cond (isLess o) (c .before .before .before .before .args .j) (c .before .before .before .before .args .i)) (sym (c .enum-told2 .given .1) ∙ c .before .before .compare-epochs .ensures)
+returns-2 c =
+    let start : tie.Start = search needs in
+    let order : tie.After-compare-epochs = search needs in
+    ap (λ (o : Order). cond (isLess o) (start .args .j) (start .args .i)) (sym (c .enum-told2 .given .1) ∙ order .compare-epochs .ensures)
 
 returns-3 : tie.Need-returns-3
-returns-3 c = ap (λ (o : Order). cond (isLess o) (c .before .before .before .before .args .j) (c .before .before .before .before .args .i)) (sym (c .enum-told3 .given .1) ∙ c .before .before .compare-epochs .ensures)
+returns-3 c =
+    let start : tie.Start = search needs in
+    let order : tie.After-compare-epochs = search needs in
+    ap (λ (o : Order). cond (isLess o) (start .args .j) (start .args .i)) (sym (c .enum-told3 .given .1) ∙ order .compare-epochs .ensures)
 
 pub greater-of-spec : {M : Type 1} → statement M
 greater-of-spec =

@@ -4,13 +4,12 @@ use Prim.Native.Nat.{ℕ, _<_, _≤_}
 use native.Mathlib.Omega.{arith}
 use denote.Ref.{now}
 use lib.ListN.{length}
-use borrow.Author.Tests.{lt-ltb, le-ltb}
-use Rattle.epochs.specs.Tables.{entriesOf}
-use Rattle.epochs.specs.Tree.{target, stepTo}
-use Rattle.epochs.specs.Calls.{stepping}
-use Rattle.epochs.proofs.Priority.{target-in}
-use Rattle.epochs.proofs.Encoded.{length-entries}
-use Rattle.epochs.proofs.Turns.{checked}
+use borrow.Author.Tests.{lt-ltb, le-ltb, not-true, not-false}
+use Rattle.epoch_tree.specs.Tables.{entriesOf}
+use Rattle.epoch_tree.specs.Tree.{target, stepTo}
+use Rattle.epochs.specs.Calls.{nextStepOutcome}
+use Rattle.epoch_tree.proofs.OrderAndTarget.{target-in}
+use Rattle.epoch_tree.proofs.TableBytes.{checked, length-entries}
 use Rattle.epochs.specs.declared.Next.the-variants.{Take}
 use borrow.Author.Needs.{needs}
 use Rattle.epochs.proofs.next_step.Statement.{statement}
@@ -19,34 +18,56 @@ use Rattle.epochs.proofs.next_step.Tie as tie
 table-ok-requires : tie.Need-table-ok-requires
 table-ok-requires c κs = search needs
 
+returns : tie.Need-returns
+unfolding nextStepOutcome
+returns c =
+    let asked : tie.After-table-ok = search needs in
+    simp (sym (asked .table-ok .ensures) ∙ not-true (asked .table-ok .result) (c .if1 .taken))
+
+returns-2 : tie.Need-returns-2
+unfolding nextStepOutcome
+returns-2 c =
+    let start : tie.Start = search needs in
+    let asked : tie.After-table-ok = search needs in
+    let good : tie.Else1 = search needs in
+    let kept = sym (asked .table-ok .ensures) ∙ not-false (asked .table-ok .result) (good .if1 .left) in
+    let t = entriesOf (now (start .args .table)) in
+    let past : length t ≤ start .args .current = omega (arith, length-entries (now (start .args .table))) in
+    simp (kept, le-ltb (start .args .current) (length t) past)
+
 target-requires : tie.Need-target-requires
-target-requires c κs = sym (c .before .before .table-ok .ensures) ∙ c .before .if1 .taken
+target-requires c κs =
+    let asked : tie.After-table-ok = search needs in
+    let good : tie.Else1 = search needs in
+    let kept = sym (asked .table-ok .ensures) ∙ not-false (asked .table-ok .result) (good .if1 .left) in
+    kept
 
 step-to-requires : tie.Need-step-to-requires
 step-to-requires c κs =
-    let k = sym (c .before .before .before .table-ok .ensures) ∙ c .before .before .if1 .taken in
-    let t : target (entriesOf (now (c .before .before .before .before .before .args .table))) < length (entriesOf (now (c .before .before .before .before .before .args .table))) = target-in (entriesOf (now (c .before .before .before .before .before .args .table))) (checked (now (c .before .before .before .before .before .args .table)) k) in
-    let n = length-entries (now (c .before .before .before .before .before .args .table)) in
+    let start : tie.Start = search needs in
+    let asked : tie.After-table-ok = search needs in
+    let good : tie.Else1 = search needs in
+    let kept = sym (asked .table-ok .ensures) ∙ not-false (asked .table-ok .result) (good .if1 .left) in
+    let t = entriesOf (now (start .args .table)) in
+    let inside : target t < length t = target-in t (checked (now (start .args .table)) kept) in
+    let n = length-entries (now (start .args .table)) in
     let e = c .target .ensures in
-    (k, omega arith, c .before .if2 .taken)
-
-returns : tie.Need-returns
-unfolding stepping
-returns c =
-    let l : (c .before .before .before .before .before .before .args .current) < length (entriesOf (now (c .before .before .before .before .before .before .args .table))) = omega (arith, length-entries (now (c .before .before .before .before .before .before .args .table))) in
-    simp (sym (c .before .before .before .before .table-ok .ensures) ∙ c .before .before .before .if1 .taken, lt-ltb (c .before .before .before .before .before .before .args .current) (length (entriesOf (now (c .before .before .before .before .before .before .args .table)))) l) (ap Take (c .step-to .ensures ∙ ap (λ (d : ℕ). stepTo (entriesOf (now (c .before .before .before .before .before .before .args .table))) d (c .before .before .before .before .before .before .args .current)) (c .before .target .ensures)))
-
-returns-2 : tie.Need-returns-2
-unfolding stepping
-returns-2 c =
-    let l : length (entriesOf (now (c .before .before .before .before .args .table))) ≤ (c .before .before .before .before .args .current) = omega (arith, length-entries (now (c .before .before .before .before .args .table))) in
-    simp (sym (c .before .before .table-ok .ensures) ∙ c .before .if1 .taken, le-ltb (c .before .before .before .before .args .current) (length (entriesOf (now (c .before .before .before .before .args .table)))) l)
+    (kept, omega arith, omega arith)
 
 returns-3 : tie.Need-returns-3
-unfolding stepping
-returns-3 c = simp (sym (c .before .table-ok .ensures) ∙ c .if1 .left)
+unfolding nextStepOutcome
+returns-3 c =
+    let start : tie.Start = search needs in
+    let asked : tie.After-table-ok = search needs in
+    let good : tie.Else1 = search needs in
+    let kept = sym (asked .table-ok .ensures) ∙ not-false (asked .table-ok .result) (good .if1 .left) in
+    let goal : tie.After-target = search needs in
+    let t = entriesOf (now (start .args .table)) in
+    let inside : start .args .current < length t = omega (arith, length-entries (now (start .args .table))) in
+    let step = c .step-to .ensures ∙ ap (λ (d : ℕ). stepTo t d (start .args .current)) (goal .target .ensures) in
+    simp (kept, lt-ltb (start .args .current) (length t) inside) (ap Take step)
 
 pub next-step-spec : {M : Type 1} → statement M
 next-step-spec =
     tie.close
-    (tie.spec table-ok-requires target-requires step-to-requires returns returns-2 returns-3)
+    (tie.spec table-ok-requires returns returns-2 target-requires step-to-requires returns-3)

@@ -1,8 +1,8 @@
 -- `epochs::parent_of` meets its contract. Assumes nothing.
 use mathlib.Core.Path.{sym, ap, _∙_}
 use denote.Ref.{now}
-use Rattle.epochs.specs.Tables.{Entry}
-use Rattle.epochs.proofs.Encoded.{entry-at}
+use Rattle.epoch_tree.specs.Tables.{Entry}
+use Rattle.epoch_tree.proofs.TableBytes.{entry-at}
 use borrow.Author.Needs.{needs}
 use Rattle.epochs.proofs.parent_of.Statement.{statement}
 use Rattle.epochs.proofs.parent_of.Tie as tie
@@ -20,7 +20,10 @@ cast-result : tie.Need-cast-result
 cast-result c = search needs
 
 returns : tie.Need-returns
-returns c = c .read-u16 .ensures ∙ sym (ap (λ (e : Entry). e .parent) (entry-at (now (c .before .before .args .table)) (c .before .before .args .k) (c .before .before .pre)))
+returns c =
+    let start : tie.Start = search needs in
+    let there = entry-at (now (start .args .table)) (start .args .k) (start .pre) in
+    c .read-u16 .ensures ∙ sym (ap (λ (e : Entry). e .parent) there)
 
 pub parent-of-spec : {M : Type 1} → statement M
 parent-of-spec =

@@ -4,9 +4,9 @@ use Prim.Native.Nat.{_+_, _/_, _%_, _≤_}
 use native.Mathlib.Omega.{arith}
 use denote.Ref.{now}
 use lib.ListN.{length}
-use Rattle.slots.specs.Bytes.{put, bytes16}
-use Rattle.slots.proofs.Put.{put-more}
-use Rattle.slots.proofs.Written.{pair}
+use Rattle.numbers.specs.Bytes.{put, bytes16}
+use Rattle.numbers.proofs.Put.{put-more}
+use Rattle.numbers.proofs.NumberBytes.{pair}
 use mathlib.Core.List.{_++_}
 use borrow.Author.Needs.{needs}
 use Rattle.epochs.proofs.write_entry.Statement.{statement}
@@ -44,12 +44,18 @@ same-length c = search needs
 
 returns : tie.Need-returns
 returns c =
-    let o = now (c .before .before .before .before .before .before .before .before .before .before .before .before .args .out) in
-    let p = c .before .before .before .before .before .before .before .before .before .before .before .before .args .p in
-    let a = c .before .before .before .before .before .before .before .before .before .before .before .before .args .author in
-    let h : p ≤ length o = omega arith in
-    let d : c .before .before .before .before .before .before .before .write-u32 .last .0 ≡ put o p (bytes16 (a .node) ++ bytes16 (a .sequence / 65536)) = c .before .before .before .before .before .before .before .write-u32 .ensures ∙ ap (put o p) (pair (a .node) (a .sequence / 65536) (omega arith)) in
-    put-more o p h (bytes16 (a .node) ++ bytes16 (a .sequence / 65536)) (bytes16 (a .sequence % 65536) ++ bytes16 (c .before .before .before .before .before .before .before .before .before .before .before .before .args .parent)) d refl (c .before .before .write-u322 .ensures ∙ ap (put (c .before .before .before .before .before .before .before .write-u32 .last .0) (p + 4)) (pair (a .sequence % 65536) (c .before .before .before .before .before .before .before .before .before .before .before .before .args .parent) (omega arith)))
+    let start : tie.Start = search needs in
+    let first : tie.After-write-u32 = search needs in
+    let second : tie.After-write-u322 = search needs in
+    let o = now (start .args .out) in
+    let p = start .args .p in
+    let a = start .args .author in
+    let high = bytes16 (a .node) ++ bytes16 (a .sequence / 65536) in
+    let low = bytes16 (a .sequence % 65536) ++ bytes16 (start .args .parent) in
+    let fits : p ≤ length o = omega arith in
+    let one : first .write-u32 .last .0 ≡ put o p high = first .write-u32 .ensures ∙ ap (put o p) (pair (a .node) (a .sequence / 65536) (omega arith)) in
+    let two = second .write-u322 .ensures ∙ ap (put (first .write-u32 .last .0) (p + 4)) (pair (a .sequence % 65536) (start .args .parent) (omega arith)) in
+    put-more o p fits high low one refl two
 
 pub write-entry-spec : {M : Type 1} → statement M
 write-entry-spec =

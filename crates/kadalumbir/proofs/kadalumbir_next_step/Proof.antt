@@ -3,7 +3,7 @@ use mathlib.Core.Path.{_≡_, ap, _∙_}
 use native.Mathlib.Omega.{arith}
 use denote.Ref.{now}
 use Rattle.kadalumbir.specs.Library.{packed}
-use Rattle.epochs.specs.Calls.{numberIn, indexIn, answerOf, stepping}
+use Rattle.epochs.specs.Calls.{numberIn, indexIn, answerOf, nextStepOutcome}
 use Rattle.kadalumbir.proofs.Counts.{step-count, step-index}
 use borrow.Author.Needs.{needs}
 use Rattle.kadalumbir.proofs.kadalumbir_next_step.Statement.{statement}
@@ -20,7 +20,7 @@ step-index-requires c κs = search needs
 
 cast-index : tie.Need-cast-index
 cast-index c =
-    let e : c .step-index .result ≡ indexIn (stepping (now (c .before .before .before .before .args .table)) (c .before .before .before .before .args .current)) = c .step-index .ensures ∙ ap indexIn (c .before .before .next-step .ensures) in
+    let e : c .step-index .result ≡ indexIn (nextStepOutcome (now (c .before .before .before .before .args .table)) (c .before .before .before .before .args .current)) = c .step-index .ensures ∙ ap indexIn (c .before .before .next-step .ensures) in
     let b = step-index (now (c .before .before .before .before .args .table)) (c .before .before .before .before .args .current) in
     omega arith
 

@@ -2,8 +2,7 @@
 use mathlib.Core.Path.{ap, _∙_}
 use denote.Ref.{now}
 use lib.ListN.{length}
-use Rattle.kadalumbir.specs.Library.{packed}
-use Rattle.kadalumbir.specs.Library.{numbers}
+use Rattle.kadalumbir.specs.Library.{packed, numbers}
 use Rattle.kadalumbir.proofs.Counts.{write-message-count}
 use borrow.Author.Needs.{needs}
 use Rattle.kadalumbir.proofs.kadalumbir_write_message.Statement.{statement}

@@ -5,11 +5,11 @@ use lib.ListN.{length}
 use borrow.Author.Tests.{le-leb, lt-leb}
 use Rattle.names.specs.Names.{rowOf}
 use Rattle.slots.specs.Slots.{slotSize, slotBytes}
-use Rattle.pages.specs.declared.Answer.{Answer}
-use Rattle.pages.specs.declared.Answer.the-variants.{Accepted}
-use Rattle.pages.specs.declared.Refusal.the-variants.{Short}
-use Rattle.pages.specs.Answers.{refuse}
-use Rattle.pages.proofs.Outcomes.{refused, accepted}
+use Rattle.answers.specs.declared.Answer.{Answer}
+use Rattle.answers.specs.declared.Answer.the-variants.{Accepted}
+use Rattle.answers.specs.declared.Refusal.the-variants.{Short}
+use Rattle.answers.specs.Answers.{refuse}
+use Rattle.answers.proofs.Outcomes.{refused, accepted}
 use Rattle.kadalumbir.specs.Library.{named}
 use borrow.Author.Needs.{needs}
 use Rattle.kadalumbir.proofs.write_name.Statement.{statement}

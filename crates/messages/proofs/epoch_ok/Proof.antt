@@ -3,12 +3,14 @@ use mathlib.Core.Path.{sym}
 use Prim.Native.Nat.{_≤_, _<_}
 use native.Mathlib.Omega.{arith}
 use borrow.Author.Tests.{le-leb, lt-leb}
+use borrow.Author.Needs.{needs}
 use Rattle.messages.proofs.epoch_ok.Statement.{statement}
 use Rattle.messages.proofs.epoch_ok.Tie as tie
 
 returns : tie.Need-returns
 returns c =
-    let a = c .before .before .before .args .epoch in
+    let start : tie.Start = search needs in
+    let a = start .args .epoch in
     let n : a .node ≤ 65535 = omega arith in
     let q : a .sequence ≤ 4294967295 = omega arith in
     let z : a .node < 1 = omega arith in
@@ -16,7 +18,8 @@ returns c =
 
 returns-2 : tie.Need-returns-2
 returns-2 c =
-    let a = c .before .before .args .epoch in
+    let start : tie.Start = search needs in
+    let a = start .args .epoch in
     let n : a .node ≤ 65535 = omega arith in
     let q : a .sequence ≤ 4294967295 = omega arith in
     let z : 1 ≤ a .node = omega arith in

@@ -6,7 +6,8 @@ use borrow.Author.Needs.{needs}
 use lib.ListN.{length, take, length-map}
 use Rattle.names.specs.Names.{limit, rowOf, m as zeroTuple}
 use Rattle.names.specs.Ordering.{compareRows}
-use Rattle.names.proofs.Compared.{left, left-same, left-less, left-more, left-at, take-min}
+use Rattle.names.proofs.CompareTuples.{left, left-same, left-less, left-more, left-at}
+use Rattle.numbers.proofs.Lists.{take-min}
 use Rattle.names.proofs.compare.Statement.{statement}
 use Rattle.names.proofs.compare.Tie as tie
 
@@ -18,11 +19,18 @@ abbrev μ-loop : tie.MeasureT-loop
 μ-loop xs ys n m i₀ i = n - i
 
 -- what the loop compares is the whole of both names
-whole : (c : tie.At-loop Inv-loop μ-loop) → compareRows (take (c .before .before .clamped .result) (c .before .before .before .before .before .args .a .tuples)) (take (c .before .clamped2 .result) (c .before .before .before .before .before .args .b .tuples)) ≡ compareRows (rowOf (c .before .before .before .before .before .args .a)) (rowOf (c .before .before .before .before .before .args .b))
+whole : (c : tie.At-loop Inv-loop μ-loop) →
+    let after-clamped2 : tie.After-clamped2 Inv-loop μ-loop = search needs in
+    let after-clamped : tie.After-clamped Inv-loop μ-loop = search needs in
+    let start : tie.Start Inv-loop μ-loop = search needs in
+    compareRows (take (after-clamped .clamped .result) (start .args .a .tuples)) (take (after-clamped2 .clamped2 .result) (start .args .b .tuples)) ≡ compareRows (rowOf (start .args .a)) (rowOf (start .args .b))
 whole c =
-    let lx = simp length-map at (c .before .before .before .before .before .good .0 .1 .1 .1 .0 .1 .0 .1) in
-    let ly = simp length-map at (c .before .before .before .before .before .good .1 .0 .1 .1 .1 .0 .1 .0 .1) in
-    rw (c .before .before .clamped .ensures, c .before .clamped2 .ensures, take-min (c .before .before .before .before .before .args .a .depth) limit (c .before .before .before .before .before .args .a .tuples) lx, take-min (c .before .before .before .before .before .args .b .depth) limit (c .before .before .before .before .before .args .b .tuples) ly)
+    let after-clamped2 : tie.After-clamped2 Inv-loop μ-loop = search needs in
+    let after-clamped : tie.After-clamped Inv-loop μ-loop = search needs in
+    let start : tie.Start Inv-loop μ-loop = search needs in
+    let lx = simp length-map at (start .good .0 .1 .1 .1 .0 .1 .0 .1) in
+    let ly = simp length-map at (start .good .1 .0 .1 .1 .1 .0 .1 .0 .1) in
+    rw (after-clamped .clamped .ensures, after-clamped2 .clamped2 .ensures, take-min (start .args .a .depth) limit (start .args .a .tuples) lx, take-min (start .args .b .depth) limit (start .args .b .tuples) ly)
 
 clamped-requires : tie.Need-clamped-requires Inv-loop μ-loop
 clamped-requires c κs = search needs
@@ -32,8 +40,9 @@ clamped-requires-2 c κs = search needs
 
 loop-holds : tie.Need-loop-holds Inv-loop μ-loop
 loop-holds c =
-    let lx = simp length-map at (c .before .before .before .before .good .0 .1 .1 .1 .0 .1 .0 .1) in
-    let ly = simp length-map at (c .before .before .before .before .good .1 .0 .1 .1 .1 .0 .1 .0 .1) in
+    let start : tie.Start Inv-loop μ-loop = search needs in
+    let lx = simp length-map at (start .good .0 .1 .1 .1 .0 .1 .0 .1) in
+    let ly = simp length-map at (start .good .1 .0 .1 .1 .1 .0 .1 .0 .1) in
     (omega (arith, lx), omega (arith, ly), omega arith, omega arith, omega arith, refl)
 
 mul-compare-tuples : tie.Need-mul-compare-tuples Inv-loop μ-loop
@@ -68,33 +77,51 @@ loop-less c = omega arith
 
 loop-again : tie.Need-loop-again Inv-loop μ-loop
 loop-again c =
-    let v = c .before .before .before .before .before .before .before .loop .inv in
-    (v .0, v .1, v .2, omega arith, omega arith, left-at _ _ _ _ _ zeroTuple (v .0) (v .1) (sym (c .enum-told3 .given .1) ∙ c .before .before .compare-tuples .ensures) (c .before .before .before .before .before .before .if1 .left) (c .before .before .before .before .before .if3 .left) ∙ v .5)
+    let after-compare-tuples : tie.After-compare-tuples Inv-loop μ-loop = search needs in
+    let else3 : tie.Else3 Inv-loop μ-loop = search needs in
+    let else1 : tie.Else1 Inv-loop μ-loop = search needs in
+    let at-loop : tie.At-loop Inv-loop μ-loop = search needs in
+    let v = at-loop .loop .inv in
+    (v .0, v .1, v .2, omega arith, omega arith, left-at _ _ _ _ _ zeroTuple (v .0) (v .1) (sym (c .enum-told3 .given .1) ∙ after-compare-tuples .compare-tuples .ensures) (else1 .if1 .left) (else3 .if3 .left) ∙ v .5)
 
 returns : tie.Need-returns Inv-loop μ-loop
 returns c =
-    let v = c .before .before .loop .inv in
-    (left-same _ _ _ _ _ zeroTuple (v .0) (v .1) (c .before .if1 .taken) (c .if2 .taken)) ∙ v .5 ∙ whole (c .before .before)
+    let then1 : tie.Then1 Inv-loop μ-loop = search needs in
+    let at-loop : tie.At-loop Inv-loop μ-loop = search needs in
+    let v = at-loop .loop .inv in
+    (left-same _ _ _ _ _ zeroTuple (v .0) (v .1) (then1 .if1 .taken) (c .if2 .taken)) ∙ v .5 ∙ whole (at-loop)
 
 returns-2 : tie.Need-returns-2 Inv-loop μ-loop
 returns-2 c =
-    let v = c .before .before .loop .inv in
-    (left-less _ _ _ _ _ zeroTuple (v .0) (v .1) (c .before .if1 .taken) (c .if2 .left)) ∙ v .5 ∙ whole (c .before .before)
+    let then1 : tie.Then1 Inv-loop μ-loop = search needs in
+    let at-loop : tie.At-loop Inv-loop μ-loop = search needs in
+    let v = at-loop .loop .inv in
+    (left-less _ _ _ _ _ zeroTuple (v .0) (v .1) (then1 .if1 .taken) (c .if2 .left)) ∙ v .5 ∙ whole (at-loop)
 
 returns-3 : tie.Need-returns-3 Inv-loop μ-loop
 returns-3 c =
-    let v = c .before .before .loop .inv in
-    (left-more _ _ _ _ _ zeroTuple (v .0) (v .1) (c .before .if1 .left) (c .if3 .taken)) ∙ v .5 ∙ whole (c .before .before)
+    let else1 : tie.Else1 Inv-loop μ-loop = search needs in
+    let at-loop : tie.At-loop Inv-loop μ-loop = search needs in
+    let v = at-loop .loop .inv in
+    (left-more _ _ _ _ _ zeroTuple (v .0) (v .1) (else1 .if1 .left) (c .if3 .taken)) ∙ v .5 ∙ whole (at-loop)
 
 returns-4 : tie.Need-returns-4 Inv-loop μ-loop
 returns-4 c =
-    let v = c .before .before .before .before .before .before .before .loop .inv in
-    left-at _ _ _ _ _ zeroTuple (v .0) (v .1) (sym (c .enum-told .given .1) ∙ c .before .before .compare-tuples .ensures) (c .before .before .before .before .before .before .if1 .left) (c .before .before .before .before .before .if3 .left) ∙ v .5 ∙ whole (c .before .before .before .before .before .before .before)
+    let after-compare-tuples : tie.After-compare-tuples Inv-loop μ-loop = search needs in
+    let else3 : tie.Else3 Inv-loop μ-loop = search needs in
+    let else1 : tie.Else1 Inv-loop μ-loop = search needs in
+    let at-loop : tie.At-loop Inv-loop μ-loop = search needs in
+    let v = at-loop .loop .inv in
+    left-at _ _ _ _ _ zeroTuple (v .0) (v .1) (sym (c .enum-told .given .1) ∙ after-compare-tuples .compare-tuples .ensures) (else1 .if1 .left) (else3 .if3 .left) ∙ v .5 ∙ whole (at-loop)
 
 returns-5 : tie.Need-returns-5 Inv-loop μ-loop
 returns-5 c =
-    let v = c .before .before .before .before .before .before .before .loop .inv in
-    left-at _ _ _ _ _ zeroTuple (v .0) (v .1) (sym (c .enum-told2 .given .1) ∙ c .before .before .compare-tuples .ensures) (c .before .before .before .before .before .before .if1 .left) (c .before .before .before .before .before .if3 .left) ∙ v .5 ∙ whole (c .before .before .before .before .before .before .before)
+    let after-compare-tuples : tie.After-compare-tuples Inv-loop μ-loop = search needs in
+    let else3 : tie.Else3 Inv-loop μ-loop = search needs in
+    let else1 : tie.Else1 Inv-loop μ-loop = search needs in
+    let at-loop : tie.At-loop Inv-loop μ-loop = search needs in
+    let v = at-loop .loop .inv in
+    left-at _ _ _ _ _ zeroTuple (v .0) (v .1) (sym (c .enum-told2 .given .1) ∙ after-compare-tuples .compare-tuples .ensures) (else1 .if1 .left) (else3 .if3 .left) ∙ v .5 ∙ whole (at-loop)
 
 pub compare-spec : {M : Type 1} → statement M
 compare-spec =

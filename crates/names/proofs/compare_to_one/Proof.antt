@@ -10,7 +10,7 @@ use Rattle.names.specs.declared.Tuple.{Tuple}
 use Rattle.names.specs.declared.Order.{Order}
 use Rattle.names.specs.Ordering.{then, compareTuples, compareRows}
 use Rattle.names.specs.Names.{rowOf, m}
-use Rattle.names.proofs.Compared.{to-none, to-one, after-same, after-more}
+use Rattle.names.proofs.CompareTuples.{to-none, to-one, after-same, after-more}
 use borrow.Author.Needs.{needs}
 use Rattle.names.proofs.compare_to_one.Statement.{statement}
 use Rattle.names.proofs.compare_to_one.Tie as tie
@@ -25,7 +25,9 @@ tuples-in-requires : tie.Need-tuples-in-requires
 tuples-in-requires c κs = search needs
 
 returns : tie.Need-returns
-returns c = to-none (rowOf (c .before .before .before .args .a)) (c .before .before .before .args .t) (omega arith)
+returns c =
+    let start : tie.Start = search needs in
+    to-none (rowOf (start .args .a)) (start .args .t) (omega arith)
 
 array-copy-out-compare-tuples : tie.Need-array-copy-out-compare-tuples
 array-copy-out-compare-tuples c = search needs
@@ -40,19 +42,33 @@ enum-told-2 : tie.Need-enum-told-2
 enum-told-2 c = search needs
 
 returns-2 : tie.Need-returns-2
-returns-2 c = let x = c .before .before .before .before .before .before .before .before .args in after-same (rowOf (x .a)) (omega arith) ∙ decides (x .a) (x .t) (omega arith) (c .before .before .before .compare-tuples .ensures) (c .before .enum-told2 .given .1)
+returns-2 c =
+    let after-enum-told2 : tie.After-enum-told2 = search needs in
+    let after-compare-tuples : tie.After-compare-tuples = search needs in
+    let start : tie.Start = search needs in
+    let x = start .args in after-same (rowOf (x .a)) (omega arith) ∙ decides (x .a) (x .t) (omega arith) (after-compare-tuples .compare-tuples .ensures) (after-enum-told2 .enum-told2 .given .1)
 
 enum-told-3 : tie.Need-enum-told-3
 enum-told-3 c = search needs
 
 returns-3 : tie.Need-returns-3
-returns-3 c = let x = c .before .before .before .before .before .before .before .args in decides (x .a) (x .t) (omega arith) (c .before .before .compare-tuples .ensures) (c .enum-told .given .1)
+returns-3 c =
+    let after-compare-tuples : tie.After-compare-tuples = search needs in
+    let start : tie.Start = search needs in
+    let x = start .args in decides (x .a) (x .t) (omega arith) (after-compare-tuples .compare-tuples .ensures) (c .enum-told .given .1)
 
 returns-4 : tie.Need-returns-4
-returns-4 c = let x = c .before .before .before .before .before .before .before .before .args in after-more (rowOf (x .a)) (omega arith) ∙ decides (x .a) (x .t) (omega arith) (c .before .before .before .compare-tuples .ensures) (c .before .enum-told2 .given .1)
+returns-4 c =
+    let after-enum-told2 : tie.After-enum-told2 = search needs in
+    let after-compare-tuples : tie.After-compare-tuples = search needs in
+    let start : tie.Start = search needs in
+    let x = start .args in after-more (rowOf (x .a)) (omega arith) ∙ decides (x .a) (x .t) (omega arith) (after-compare-tuples .compare-tuples .ensures) (after-enum-told2 .enum-told2 .given .1)
 
 returns-5 : tie.Need-returns-5
-returns-5 c = let x = c .before .before .before .before .before .before .before .args in decides (x .a) (x .t) (omega arith) (c .before .before .compare-tuples .ensures) (c .enum-told3 .given .1)
+returns-5 c =
+    let after-compare-tuples : tie.After-compare-tuples = search needs in
+    let start : tie.Start = search needs in
+    let x = start .args in decides (x .a) (x .t) (omega arith) (after-compare-tuples .compare-tuples .ensures) (c .enum-told3 .given .1)
 
 pub compare-to-one-spec : {M : Type 1} → statement M
 compare-to-one-spec =

@@ -1,6 +1,7 @@
 -- `names::compare_tuples` meets its contract. Assumes nothing.
-use mathlib.Core.Path.{_∙_}
-use Rattle.names.proofs.Compared.{tuple-by}
+use mathlib.Core.Path.{_≡_, _∙_}
+use Rattle.names.proofs.CompareTuples.{tuple-by}
+use Rattle.names.specs.Ordering.{compareℤ}
 use borrow.Author.Needs.{needs}
 use Rattle.names.proofs.compare_tuples.Statement.{statement}
 use Rattle.names.proofs.compare_tuples.Tie as tie
@@ -39,7 +40,23 @@ first-of-requires-3 : tie.Need-first-of-requires-3
 first-of-requires-3 c κs = search needs
 
 returns : tie.Need-returns
-returns c = tuple-by _ _ (c .before .before .before .before .before .before .before .before .before .before .compare-numbers .ensures) (c .before .before .before .before .before .before .before .compare-numbers2 .ensures) (c .before .before .before .before .before .before .compare-numbers3 .ensures) (c .before .before .before .compare-offsets .ensures ∙ search needs) (c .before .before .first-of .ensures) (c .before .first-of2 .ensures) (c .first-of3 .ensures)
+returns c =
+    let after-compare-offsets : tie.After-compare-offsets = search needs in
+    let start : tie.Start = search needs in
+    let offsets : after-compare-offsets .compare-offsets .result ≡ compareℤ (start .args .s .offset) (start .args .t .offset) = after-compare-offsets .compare-offsets .ensures ∙ search needs in
+    let after-first-of2 : tie.After-first-of2 = search needs in
+    let after-first-of : tie.After-first-of = search needs in
+    let after-compare-numbers3 : tie.After-compare-numbers3 = search needs in
+    let after-compare-numbers2 : tie.After-compare-numbers2 = search needs in
+    let after-compare-numbers : tie.After-compare-numbers = search needs in
+    tuple-by (start .args .s) (start .args .t)
+    (after-compare-numbers .compare-numbers .ensures)
+    (after-compare-numbers2 .compare-numbers2 .ensures)
+    (after-compare-numbers3 .compare-numbers3 .ensures)
+    offsets
+    (after-first-of .first-of .ensures)
+    (after-first-of2 .first-of2 .ensures)
+    (c .first-of3 .ensures)
 
 pub compare-tuples-spec : {M : Type 1} → statement M
 compare-tuples-spec =

@@ -11,7 +11,8 @@ clamped-requires c κs = search needs
 
 returns : tie.Need-returns
 returns c =
-    let l = simp length-map at (c .before .good .0 .1 .1 .1 .0 .1 .0 .1) in
+    let start : tie.Start = search needs in
+    let l = simp length-map at (start .good .0 .1 .1 .1 .0 .1 .0 .1) in
     (c .clamped .ensures ∙ simp length-take (omega (arith, l)), omega arith)
 
 pub tuples-in-spec : {M : Type 1} → statement M

@@ -6,8 +6,8 @@ use denote.Ref.{now}
 use lib.ListN.{length, List·getD-eq-default}
 use Rattle.slots.specs.Slots.{slotSize}
 use Rattle.pages.specs.Pages.{namesOf}
-use Rattle.pages.proofs.Parts.{lent-name, length-names}
-use Rattle.names.proofs.Joins.{row-of}
+use Rattle.pages.proofs.SlotBySlot.{lent-name, length-names}
+use Rattle.name_values.proofs.JoinedRows.{row-of}
 use borrow.Author.Needs.{needs}
 use Rattle.pages.proofs.name_of.Statement.{statement}
 use Rattle.pages.proofs.name_of.Tie as tie
@@ -35,15 +35,19 @@ empty-requires c κs = search needs
 
 returns : tie.Need-returns
 returns c =
-    let s = now (c .before .before .before .before .args .page) in
-    let k = c .before .before .before .before .args .k in
-    c .read-name .ensures ∙ lent-name s (length s / slotSize) k (slotSize * k) refl (c .before .before .if1 .taken)
+    let then1 : tie.Then1 = search needs in
+    let start : tie.Start = search needs in
+    let s = now (start .args .page) in
+    let k = start .args .k in
+    c .read-name .ensures ∙ lent-name s (length s / slotSize) k (slotSize * k) refl (then1 .if1 .taken)
 
 returns-2 : tie.Need-returns-2
 returns-2 c =
-    let s = now (c .before .before .before .args .page) in
-    let k = c .before .before .before .args .k in
-    let h : length (namesOf s) ≤ k = rw (length-names s (length s / slotSize)) (c .before .if1 .left) in
+    let else1 : tie.Else1 = search needs in
+    let start : tie.Start = search needs in
+    let s = now (start .args .page) in
+    let k = start .args .k in
+    let h : length (namesOf s) ≤ k = rw (length-names s (length s / slotSize)) (else1 .if1 .left) in
     row-of [] (c .empty .ensures) ∙ sym (List·getD-eq-default (namesOf s) [] h)
 
 pub name-of-spec : {M : Type 1} → statement M

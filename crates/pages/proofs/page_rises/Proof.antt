@@ -1,5 +1,5 @@
 -- `pages::page_rises` meets its contract. Assumes nothing.
-use Rattle.pages.proofs.Parts.{neighbours, no-neighbours, lent-length}
+use Rattle.pages.proofs.SlotBySlot.{neighbours, no-neighbours, lent-length}
 use mathlib.Core.Path.{_≡_, refl, _∙_, sym}
 use Prim.Native.Nat.{_+_, _*_, _-_, _/_, _≤_}
 use native.Mathlib.Omega.{arith}
@@ -53,8 +53,10 @@ part-compare-slots-end-2 c = omega arith
 
 compare-slots-requires : tie.Need-compare-slots-requires Inv-loop μ-loop
 compare-slots-requires c κs =
-    let s = now (c .before .before .before .before .before .args .page) in
-    let k = c .before .before .before .loop .k in
+    let at-loop : tie.At-loop Inv-loop μ-loop = search needs in
+    let start : tie.Start Inv-loop μ-loop = search needs in
+    let s = now (start .args .page) in
+    let k = at-loop .loop .k in
     let q : slotSize * k + slotSize ≡ slotSize * (k + 1) = omega arith in
     (lent-length s (length s / slotSize) k (slotSize * k) refl (omega arith) refl, lent-length s (length s / slotSize) (k + 1) (slotSize * k + slotSize) q (omega arith) refl)
 
@@ -74,16 +76,31 @@ loop-less : tie.Need-loop-less Inv-loop μ-loop
 loop-less c = omega arith
 
 loop-again : tie.Need-loop-again Inv-loop μ-loop
-loop-again c = (c .before .before .before .before .before .before .loop .inv .0, omega arith, neighbours (now (c .before .before .before .before .before .before .before .before .args .page)) (c .before .before .before .before .before .before .loop .k) (omega arith) (sym (c .enum-told .given .1) ∙ c .before .before .compare-slots .ensures) ∙ c .before .before .before .before .before .before .loop .inv .2)
+loop-again c =
+    let after-compare-slots : tie.After-compare-slots Inv-loop μ-loop = search needs in
+    let at-loop : tie.At-loop Inv-loop μ-loop = search needs in
+    let start : tie.Start Inv-loop μ-loop = search needs in
+    (at-loop .loop .inv .0, omega arith, neighbours (now (start .args .page)) (at-loop .loop .k) (omega arith) (sym (c .enum-told .given .1) ∙ after-compare-slots .compare-slots .ensures) ∙ at-loop .loop .inv .2)
 
 returns : tie.Need-returns Inv-loop μ-loop
-returns c = no-neighbours (now (c .before .before .before .args .page)) (c .before .loop .k) (omega arith) ∙ c .before .loop .inv .2
+returns c =
+    let at-loop : tie.At-loop Inv-loop μ-loop = search needs in
+    let start : tie.Start Inv-loop μ-loop = search needs in
+    no-neighbours (now (start .args .page)) (at-loop .loop .k) (omega arith) ∙ at-loop .loop .inv .2
 
 returns-2 : tie.Need-returns-2 Inv-loop μ-loop
-returns-2 c = neighbours (now (c .before .before .before .before .before .before .before .before .args .page)) (c .before .before .before .before .before .before .loop .k) (omega arith) (sym (c .enum-told2 .given .1) ∙ c .before .before .compare-slots .ensures) ∙ c .before .before .before .before .before .before .loop .inv .2
+returns-2 c =
+    let after-compare-slots : tie.After-compare-slots Inv-loop μ-loop = search needs in
+    let at-loop : tie.At-loop Inv-loop μ-loop = search needs in
+    let start : tie.Start Inv-loop μ-loop = search needs in
+    neighbours (now (start .args .page)) (at-loop .loop .k) (omega arith) (sym (c .enum-told2 .given .1) ∙ after-compare-slots .compare-slots .ensures) ∙ at-loop .loop .inv .2
 
 returns-3 : tie.Need-returns-3 Inv-loop μ-loop
-returns-3 c = neighbours (now (c .before .before .before .before .before .before .before .before .args .page)) (c .before .before .before .before .before .before .loop .k) (omega arith) (sym (c .enum-told3 .given .1) ∙ c .before .before .compare-slots .ensures) ∙ c .before .before .before .before .before .before .loop .inv .2
+returns-3 c =
+    let after-compare-slots : tie.After-compare-slots Inv-loop μ-loop = search needs in
+    let at-loop : tie.At-loop Inv-loop μ-loop = search needs in
+    let start : tie.Start Inv-loop μ-loop = search needs in
+    neighbours (now (start .args .page)) (at-loop .loop .k) (omega arith) (sym (c .enum-told3 .given .1) ∙ after-compare-slots .compare-slots .ensures) ∙ at-loop .loop .inv .2
 
 pub page-rises-spec : {M : Type 1} → statement M
 page-rises-spec =

@@ -4,10 +4,12 @@ use Prim.Native.Nat.{_-_, _/_, _≤_}
 use native.Mathlib.Omega.{arith}
 use denote.Ref.{now}
 use lib.ListN.{length, drop}
-use Rattle.slots.specs.Bytes.{every}
+use Rattle.numbers.specs.Lists.{every}
 use Rattle.slots.specs.Slots.{slotSize, keepsSlot}
 use Rattle.pages.specs.Pages.{parts}
-use Rattle.pages.proofs.Parts.{lent-length, part-at, part-end}
+use Rattle.pages.proofs.SlotBySlot.{lent-length, part-at, part-end}
+use borrow.Author.Tests.{not-true, not-false}
+use borrow.Author.Needs.{needs}
 use Rattle.pages.proofs.slots_ok.Statement.{statement}
 use Rattle.pages.proofs.slots_ok.Tie as tie
 
@@ -36,7 +38,20 @@ part-slot-ok-end : tie.Need-part-slot-ok-end Inv-loop μ-loop
 part-slot-ok-end c = omega arith
 
 slot-ok-requires : tie.Need-slot-ok-requires Inv-loop μ-loop
-slot-ok-requires c κs = lent-length (now (c .before .before .before .before .args .page)) _ (c .before .before .loop .k) _ refl (c .before .loop-test .taken) (c .before .before .loop .inv .0)
+slot-ok-requires c κs =
+    let in-loop : tie.In-loop Inv-loop μ-loop = search needs in
+    let at-loop : tie.At-loop Inv-loop μ-loop = search needs in
+    let start : tie.Start Inv-loop μ-loop = search needs in
+    lent-length (now (start .args .page)) _ (at-loop .loop .k) _ refl (in-loop .loop-test .taken) (at-loop .loop .inv .0)
+
+returns : tie.Need-returns Inv-loop μ-loop
+returns c =
+    let after-slot-ok : tie.After-slot-ok Inv-loop μ-loop = search needs in
+    let in-loop : tie.In-loop Inv-loop μ-loop = search needs in
+    let at-loop : tie.At-loop Inv-loop μ-loop = search needs in
+    let start : tie.Start Inv-loop μ-loop = search needs in
+    let broken = sym (not-true (after-slot-ok .slot-ok .result) (c .if1 .taken)) ∙ after-slot-ok .slot-ok .ensures in
+    part-at keepsSlot (now (start .args .page)) _ (at-loop .loop .k) (in-loop .loop-test .taken) broken ∙ at-loop .loop .inv .2
 
 add-k : tie.Need-add-k Inv-loop μ-loop
 add-k c = omega arith
@@ -45,13 +60,20 @@ loop-less : tie.Need-loop-less Inv-loop μ-loop
 loop-less c = omega arith
 
 loop-again : tie.Need-loop-again Inv-loop μ-loop
-loop-again c = (c .before .before .before .before .loop .inv .0, omega arith, part-at keepsSlot (now (c .before .before .before .before .before .before .args .page)) _ (c .before .before .before .before .loop .k) (c .before .before .before .loop-test .taken) (sym (c .if1 .taken) ∙ c .before .slot-ok .ensures) ∙ c .before .before .before .before .loop .inv .2)
-
-returns : tie.Need-returns Inv-loop μ-loop
-returns c = part-at keepsSlot (now (c .before .before .before .before .before .before .args .page)) _ (c .before .before .before .before .loop .k) (c .before .before .before .loop-test .taken) (sym (c .if1 .left) ∙ c .before .slot-ok .ensures) ∙ c .before .before .before .before .loop .inv .2
+loop-again c =
+    let else1 : tie.Else1 Inv-loop μ-loop = search needs in
+    let after-slot-ok : tie.After-slot-ok Inv-loop μ-loop = search needs in
+    let in-loop : tie.In-loop Inv-loop μ-loop = search needs in
+    let at-loop : tie.At-loop Inv-loop μ-loop = search needs in
+    let start : tie.Start Inv-loop μ-loop = search needs in
+    let keeps = sym (not-false (after-slot-ok .slot-ok .result) (else1 .if1 .left)) ∙ after-slot-ok .slot-ok .ensures in
+    (at-loop .loop .inv .0, omega arith, part-at keepsSlot (now (start .args .page)) _ (at-loop .loop .k) (in-loop .loop-test .taken) keeps ∙ at-loop .loop .inv .2)
 
 returns-2 : tie.Need-returns-2 Inv-loop μ-loop
-returns-2 c = part-end keepsSlot (now (c .before .before .before .args .page)) _ (c .before .loop .k) (c .loop-test .left) ∙ c .before .loop .inv .2
+returns-2 c =
+    let at-loop : tie.At-loop Inv-loop μ-loop = search needs in
+    let start : tie.Start Inv-loop μ-loop = search needs in
+    part-end keepsSlot (now (start .args .page)) _ (at-loop .loop .k) (c .loop-test .left) ∙ at-loop .loop .inv .2
 
 pub slots-ok-spec : {M : Type 1} → statement M
 slots-ok-spec =
@@ -66,8 +88,8 @@ slots-ok-spec =
     part-slot-ok-start
     part-slot-ok-end
     slot-ok-requires
+    returns
     add-k
     loop-less
     loop-again
-    returns
     returns-2)

@@ -15,7 +15,10 @@ compare-requires : tie.Need-compare-requires
 compare-requires c κs = search needs
 
 returns : tie.Need-returns
-returns c = c .compare .ensures ∙ (λ i. compareRows (c .before .before .read-name .ensures i) (c .before .read-name2 .ensures i))
+returns c =
+    let after-read-name2 : tie.After-read-name2 = search needs in
+    let after-read-name : tie.After-read-name = search needs in
+    c .compare .ensures ∙ (λ i. compareRows (after-read-name .read-name .ensures i) (after-read-name2 .read-name2 .ensures i))
 
 pub compare-slots-spec : {M : Type 1} → statement M
 compare-slots-spec =

@@ -8,13 +8,18 @@ ordinary-at-requires : tie.Need-ordinary-at-requires
 ordinary-at-requires c κs = search needs
 
 returns : tie.Need-returns
-returns c = simp (sym (c .before .ordinary-at .ensures) ∙ c .if1 .taken)
+returns c =
+    let after-ordinary-at : tie.After-ordinary-at = search needs in
+    simp (sym (after-ordinary-at .ordinary-at .ensures) ∙ c .if1 .taken)
 
 marker-at-requires : tie.Need-marker-at-requires
 marker-at-requires c κs = search needs
 
 returns-2 : tie.Need-returns-2
-returns-2 c = simp (sym (c .before .before .ordinary-at .ensures) ∙ c .before .if1 .left) (c .marker-at .ensures)
+returns-2 c =
+    let else1 : tie.Else1 = search needs in
+    let after-ordinary-at : tie.After-ordinary-at = search needs in
+    simp (sym (after-ordinary-at .ordinary-at .ensures) ∙ else1 .if1 .left) (c .marker-at .ensures)
 
 pub inner-at-spec : {M : Type 1} → statement M
 inner-at-spec = tie.close (tie.spec ordinary-at-requires returns marker-at-requires returns-2)

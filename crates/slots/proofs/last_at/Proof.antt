@@ -4,8 +4,8 @@ use mathlib.Core.Bool.{_&&_}
 use Prim.Native.Nat.{_+_}
 use denote.Ref.{now}
 use lib.Dec.{ltb}
-use Rattle.slots.specs.Bytes.{at32}
-use Rattle.slots.proofs.Sorts.{last-by}
+use Rattle.numbers.specs.Bytes.{at32}
+use Rattle.slots.proofs.TupleTests.{last-by}
 use borrow.Author.Needs.{needs}
 use Rattle.slots.proofs.last_at.Statement.{statement}
 use Rattle.slots.proofs.last_at.Tie as tie
@@ -20,10 +20,17 @@ read-u32-requires : tie.Need-read-u32-requires
 read-u32-requires c κs = search needs
 
 returns : tie.Need-returns
-returns c = sym (last-by (now (c .before .before .before .before .args .s)) (c .before .before .before .before .args .p) ∙ (λ i. (sym (c .before .before .ordinary-at .ensures) ∙ c .before .if1 .taken) i && ltb (sym (c .read-u32 .ensures) i) 2147483648))
+returns c =
+    let then1 : tie.Then1 = search needs in
+    let after-ordinary-at : tie.After-ordinary-at = search needs in
+    let start : tie.Start = search needs in
+    sym (last-by (now (start .args .s)) (start .args .p) ∙ (λ i. (sym (after-ordinary-at .ordinary-at .ensures) ∙ then1 .if1 .taken) i && ltb (sym (c .read-u32 .ensures) i) 2147483648))
 
 returns-2 : tie.Need-returns-2
-returns-2 c = sym (last-by (now (c .before .before .before .args .s)) (c .before .before .before .args .p) ∙ (λ i. (sym (c .before .ordinary-at .ensures) ∙ c .if1 .left) i && ltb (at32 (now (c .before .before .before .args .s)) (c .before .before .before .args .p + 8)) 2147483648))
+returns-2 c =
+    let after-ordinary-at : tie.After-ordinary-at = search needs in
+    let start : tie.Start = search needs in
+    sym (last-by (now (start .args .s)) (start .args .p) ∙ (λ i. (sym (after-ordinary-at .ordinary-at .ensures) ∙ c .if1 .left) i && ltb (at32 (now (start .args .s)) (start .args .p + 8)) 2147483648))
 
 pub last-at-spec : {M : Type 1} → statement M
 last-at-spec =

@@ -4,7 +4,7 @@ use mathlib.Core.Bool.{or-false}
 use native.Mathlib.Omega.{arith}
 use denote.Ref.{now}
 use borrow.Author.Tests.{ne-eqb}
-use Rattle.slots.proofs.Sorts.{marker-by}
+use Rattle.slots.proofs.TupleTests.{marker-by}
 use borrow.Author.Needs.{needs}
 use Rattle.slots.proofs.marker_at.Statement.{statement}
 use Rattle.slots.proofs.marker_at.Tie as tie
@@ -20,18 +20,30 @@ read-u32-requires c κs = search needs
 
 returns : tie.Need-returns
 returns c =
-    sym (marker-by (now (c .before .before .before .before .args .s)) (c .before .before .before .before .args .p) (λ i. omega (arith, c .before .before .before .shared-slice-known .given i))
-    ∙ simp (sym (c .before .before .read-u64 .ensures), sym (c .before .read-u32 .ensures), c .if1 .taken, or-false))
+    let after-read-u32 : tie.After-read-u32 = search needs in
+    let after-read-u64 : tie.After-read-u64 = search needs in
+    let after-shared-slice-known : tie.After-shared-slice-known = search needs in
+    let start : tie.Start = search needs in
+    sym (marker-by (now (start .args .s)) (start .args .p) (λ i. omega (arith, after-shared-slice-known .shared-slice-known .given i))
+    ∙ simp (sym (after-read-u64 .read-u64 .ensures), sym (after-read-u32 .read-u32 .ensures), c .if1 .taken, or-false))
 
 returns-2 : tie.Need-returns-2
 returns-2 c =
-    sym (marker-by (now (c .before .before .before .before .before .args .s)) (c .before .before .before .before .before .args .p) (λ i. omega (arith, c .before .before .before .before .shared-slice-known .given i))
-    ∙ simp (sym (c .before .before .before .read-u64 .ensures), sym (c .before .before .read-u32 .ensures), c .if2 .taken))
+    let after-read-u32 : tie.After-read-u32 = search needs in
+    let after-read-u64 : tie.After-read-u64 = search needs in
+    let after-shared-slice-known : tie.After-shared-slice-known = search needs in
+    let start : tie.Start = search needs in
+    sym (marker-by (now (start .args .s)) (start .args .p) (λ i. omega (arith, after-shared-slice-known .shared-slice-known .given i))
+    ∙ simp (sym (after-read-u64 .read-u64 .ensures), sym (after-read-u32 .read-u32 .ensures), c .if2 .taken))
 
 returns-3 : tie.Need-returns-3
 returns-3 c =
-    sym (marker-by (now (c .before .before .before .before .before .args .s)) (c .before .before .before .before .before .args .p) (λ i. omega (arith, c .before .before .before .before .shared-slice-known .given i))
-    ∙ simp (sym (c .before .before .before .read-u64 .ensures), ne-eqb _ _ (c .before .if1 .left), ne-eqb _ _ (c .if2 .left)))
+    let else1 : tie.Else1 = search needs in
+    let after-read-u64 : tie.After-read-u64 = search needs in
+    let after-shared-slice-known : tie.After-shared-slice-known = search needs in
+    let start : tie.Start = search needs in
+    sym (marker-by (now (start .args .s)) (start .args .p) (λ i. omega (arith, after-shared-slice-known .shared-slice-known .given i))
+    ∙ simp (sym (after-read-u64 .read-u64 .ensures), ne-eqb _ _ (else1 .if1 .left), ne-eqb _ _ (c .if2 .left)))
 
 pub marker-at-spec : {M : Type 1} → statement M
 marker-at-spec =

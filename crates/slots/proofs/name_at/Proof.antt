@@ -5,9 +5,10 @@ use native.Mathlib.Omega.{arith}
 use denote.Ref.{now}
 use lib.ListN.{drop}
 use Rattle.names.specs.Names.{endsWell}
-use Rattle.slots.specs.Bytes.{tuplesAt}
-use Rattle.slots.proofs.Inside.{ends-last, ends-at, name-by}
+use Rattle.slots.specs.Tuples.{tuplesAt}
+use Rattle.slots.proofs.NameTests.{ends-last, ends-at, name-by}
 use Rattle.slots.proofs.name_at.Statement.{statement}
+use borrow.Author.Needs.{needs}
 use Rattle.slots.proofs.name_at.Tie as tie
 
 abbrev Inv-loop : tie.InvT-loop
@@ -50,23 +51,39 @@ loop-less : tie.Need-loop-less Inv-loop μ-loop
 loop-less c = omega arith
 
 loop-again : tie.Need-loop-again Inv-loop μ-loop
-loop-again c = (omega arith, ends-at (now (c .before .before .before .before .before .before .before .args .s)) (c .before .before .before .before .before .before .before .args .p) (c .before .before .before .before .before .before .before .args .n) (c .before .before .before .loop .i) (sym (c .if3 .taken) ∙ c .before .inner-at .ensures) (omega arith) ∙ c .before .before .before .loop .inv .1)
+loop-again c =
+    let after-inner-at : tie.After-inner-at Inv-loop μ-loop = search needs in
+    let at-loop : tie.At-loop Inv-loop μ-loop = search needs in
+    let start : tie.Start Inv-loop μ-loop = search needs in
+    (omega arith, ends-at (now (start .args .s)) (start .args .p) (start .args .n) (at-loop .loop .i) (sym (c .if3 .taken) ∙ after-inner-at .inner-at .ensures) (omega arith) ∙ at-loop .loop .inv .1)
 
 returns : tie.Need-returns Inv-loop μ-loop
 returns c =
+    let at-loop : tie.At-loop Inv-loop μ-loop = search needs in
+    let then1 : tie.Then1 Inv-loop μ-loop = search needs in
+    let after-ordinary-at : tie.After-ordinary-at Inv-loop μ-loop = search needs in
+    let start : tie.Start Inv-loop μ-loop = search needs in
     c .last-at .ensures
-    ∙ ends-last (now (c .before .before .before .before .before .before .args .s)) (c .before .before .before .before .before .before .args .p) (c .before .before .before .before .before .before .args .n) (c .before .before .loop .i) (c .before .before .loop .inv .0) (omega arith)
-    ∙ c .before .before .loop .inv .1
-    ∙ name-by (now (c .before .before .before .before .before .before .args .s)) (c .before .before .before .before .before .before .args .p) (c .before .before .before .before .before .before .args .n) (omega arith) (sym (c .before .before .before .if1 .taken) ∙ c .before .before .before .before .ordinary-at .ensures)
+    ∙ ends-last (now (start .args .s)) (start .args .p) (start .args .n) (at-loop .loop .i) (at-loop .loop .inv .0) (omega arith)
+    ∙ at-loop .loop .inv .1
+    ∙ name-by (now (start .args .s)) (start .args .p) (start .args .n) (omega arith) (sym (then1 .if1 .taken) ∙ after-ordinary-at .ordinary-at .ensures)
 
 returns-2 : tie.Need-returns-2 Inv-loop μ-loop
 returns-2 c =
-    ends-at (now (c .before .before .before .before .before .before .before .args .s)) (c .before .before .before .before .before .before .before .args .p) (c .before .before .before .before .before .before .before .args .n) (c .before .before .before .loop .i) (sym (c .if3 .left) ∙ c .before .inner-at .ensures) (omega arith)
-    ∙ c .before .before .before .loop .inv .1
-    ∙ name-by (now (c .before .before .before .before .before .before .before .args .s)) (c .before .before .before .before .before .before .before .args .p) (c .before .before .before .before .before .before .before .args .n) (omega arith) (sym (c .before .before .before .before .if1 .taken) ∙ c .before .before .before .before .before .ordinary-at .ensures)
+    let after-inner-at : tie.After-inner-at Inv-loop μ-loop = search needs in
+    let at-loop : tie.At-loop Inv-loop μ-loop = search needs in
+    let then1 : tie.Then1 Inv-loop μ-loop = search needs in
+    let after-ordinary-at : tie.After-ordinary-at Inv-loop μ-loop = search needs in
+    let start : tie.Start Inv-loop μ-loop = search needs in
+    ends-at (now (start .args .s)) (start .args .p) (start .args .n) (at-loop .loop .i) (sym (c .if3 .left) ∙ after-inner-at .inner-at .ensures) (omega arith)
+    ∙ at-loop .loop .inv .1
+    ∙ name-by (now (start .args .s)) (start .args .p) (start .args .n) (omega arith) (sym (then1 .if1 .taken) ∙ after-ordinary-at .ordinary-at .ensures)
 
 returns-3 : tie.Need-returns-3 Inv-loop μ-loop
-returns-3 c = name-by (now (c .before .before .before .args .s)) (c .before .before .before .args .p) (c .before .before .before .args .n) (omega arith) (sym (c .if1 .left) ∙ c .before .ordinary-at .ensures)
+returns-3 c =
+    let after-ordinary-at : tie.After-ordinary-at Inv-loop μ-loop = search needs in
+    let start : tie.Start Inv-loop μ-loop = search needs in
+    name-by (now (start .args .s)) (start .args .p) (start .args .n) (omega arith) (sym (c .if1 .left) ∙ after-ordinary-at .ordinary-at .ensures)
 
 pub name-at-spec : {M : Type 1} → statement M
 name-at-spec =

@@ -4,8 +4,8 @@ use native.Mathlib.Omega.{arith}
 use denote.Ref.{now}
 use lib.IntN.{pos, negsuc}
 use Rattle.names.specs.Names.{withinℤ}
-use Rattle.slots.specs.Bytes.{signed}
-use Rattle.slots.proofs.Sorts.{low-position, high-position, no-node, by-offset}
+use Rattle.numbers.specs.Bytes.{signed}
+use Rattle.slots.proofs.TupleTests.{low-position, high-position, no-node, by-offset}
 use borrow.Author.Needs.{needs}
 use Rattle.slots.proofs.ordinary_at.Statement.{statement}
 use Rattle.slots.proofs.ordinary_at.Tie as tie
@@ -14,10 +14,16 @@ read-u16-requires : tie.Need-read-u16-requires
 read-u16-requires c κs = search needs
 
 returns : tie.Need-returns
-returns c = low-position (now (c .before .before .before .args .s)) (c .before .before .before .args .p) (λ i. omega (arith, c .before .before .shared-slice-known .given i)) (omega arith)
+returns c =
+    let after-shared-slice-known : tie.After-shared-slice-known = search needs in
+    let start : tie.Start = search needs in
+    low-position (now (start .args .s)) (start .args .p) (λ i. omega (arith, after-shared-slice-known .shared-slice-known .given i)) (omega arith)
 
 returns-2 : tie.Need-returns-2
-returns-2 c = high-position (now (c .before .before .before .before .args .s)) (c .before .before .before .before .args .p) (λ i. omega (arith, c .before .before .before .shared-slice-known .given i)) (omega arith) (omega arith)
+returns-2 c =
+    let after-shared-slice-known : tie.After-shared-slice-known = search needs in
+    let start : tie.Start = search needs in
+    high-position (now (start .args .s)) (start .args .p) (λ i. omega (arith, after-shared-slice-known .shared-slice-known .given i)) (omega arith) (omega arith)
 
 add-read-u16 : tie.Need-add-read-u16
 add-read-u16 c = search needs
@@ -26,7 +32,10 @@ read-u16-requires-2 : tie.Need-read-u16-requires-2
 read-u16-requires-2 c κs = search needs
 
 returns-3 : tie.Need-returns-3
-returns-3 c = no-node (now (c .before .before .before .before .before .before .args .s)) (c .before .before .before .before .before .before .args .p) (λ i. omega (arith, c .before .before .before .before .before .shared-slice-known .given i)) (omega arith) (omega arith) (omega arith)
+returns-3 c =
+    let after-shared-slice-known : tie.After-shared-slice-known = search needs in
+    let start : tie.Start = search needs in
+    no-node (now (start .args .s)) (start .args .p) (λ i. omega (arith, after-shared-slice-known .shared-slice-known .given i)) (omega arith) (omega arith) (omega arith)
 
 add-read-u32 : tie.Need-add-read-u32
 add-read-u32 c = search needs
@@ -39,9 +48,12 @@ offset-ok-requires c κs = search needs
 
 returns-4 : tie.Need-returns-4
 returns-4 c =
+    let after-read-u32 : tie.After-read-u32 = search needs in
+    let after-shared-slice-known : tie.After-shared-slice-known = search needs in
+    let start : tie.Start = search needs in
     c .offset-ok .ensures
-    ∙ ap (λ o. withinℤ (negsuc 0) (pos 2147483646) (signed o)) (c .before .read-u32 .ensures)
-    ∙ by-offset (now (c .before .before .before .before .before .before .before .before .args .s)) (c .before .before .before .before .before .before .before .before .args .p) (λ i. omega (arith, c .before .before .before .before .before .before .before .shared-slice-known .given i)) (omega arith) (omega arith) (omega arith)
+    ∙ ap (λ o. withinℤ (negsuc 0) (pos 2147483646) (signed o)) (after-read-u32 .read-u32 .ensures)
+    ∙ by-offset (now (start .args .s)) (start .args .p) (λ i. omega (arith, after-shared-slice-known .shared-slice-known .given i)) (omega arith) (omega arith) (omega arith)
 
 pub ordinary-at-spec : {M : Type 1} → statement M
 ordinary-at-spec =

@@ -6,9 +6,11 @@ use native.Mathlib.Omega.{arith}
 use borrow.Author.Count.{below-none}
 use lib.ListN.{length, getD, length-set}
 use Rattle.names.specs.Names.{m, limit}
-use Rattle.slots.specs.Bytes.{tupleAt, tupleSize}
-use Rattle.slots.proofs.Rows.{filled-more, filled-all}
+use Rattle.slots.specs.Tuples.{tupleAt, tupleSize}
+use Rattle.numbers.proofs.Lists.{filled-more}
+use Rattle.slots.proofs.TuplesInBytes.{filled-all}
 use Rattle.slots.proofs.read_row.Statement.{statement}
+use borrow.Author.Needs.{needs}
 use Rattle.slots.proofs.read_row.Tie as tie
 
 abbrev Inv-loop : tie.InvT-loop
@@ -43,18 +45,22 @@ loop-less c = omega arith
 
 loop-again : tie.Need-loop-again Inv-loop μ-loop
 loop-again c =
-    let v = c .before .before .loop .inv in
-    let e : length (c .before .before .loop .tuples) ≡ limit = v .0 in (
+    let at-loop : tie.At-loop Inv-loop μ-loop = search needs in
+    let start : tie.Start Inv-loop μ-loop = search needs in
+    let v = at-loop .loop .inv in
+    let e : length (at-loop .loop .tuples) ≡ limit = v .0 in (
       simp length-set (v .0),
       omega arith,
-      filled-more m (λ j. tupleAt (now (c .before .before .before .before .args .s)) (c .before .before .before .before .args .p + tupleSize * j)) (c .before .before .loop .tuples) (c .before .before .loop .k) _ (omega arith) (v .2) (c .read-tuple .ensures),
+      filled-more m (λ j. tupleAt (now (start .args .s)) (start .args .p + tupleSize * j)) (at-loop .loop .tuples) (at-loop .loop .k) _ (omega arith) (v .2) (c .read-tuple .ensures),
     )
 
 returns : tie.Need-returns Inv-loop μ-loop
 returns c =
-    let v = c .before .loop .inv in
-    let e : length (c .before .loop .tuples) ≡ limit = v .0 in
-    filled-all (now (c .before .before .before .args .s)) (c .before .before .before .args .p) (c .before .before .before .args .n) (c .before .loop .tuples) (omega arith) (λ j h. v .2 j (omega arith))
+    let at-loop : tie.At-loop Inv-loop μ-loop = search needs in
+    let start : tie.Start Inv-loop μ-loop = search needs in
+    let v = at-loop .loop .inv in
+    let e : length (at-loop .loop .tuples) ≡ limit = v .0 in
+    filled-all (now (start .args .s)) (start .args .p) (start .args .n) (at-loop .loop .tuples) (omega arith) (λ j h. v .2 j (omega arith))
 
 pub read-row-spec : {M : Type 1} → statement M
 read-row-spec =

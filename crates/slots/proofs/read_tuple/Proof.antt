@@ -2,7 +2,8 @@
 use mathlib.Core.Path.{_∙_, ap}
 use mir.Syntax.{w32}
 use mir.ValLaws.{toZ-ofZ}
-use Rattle.slots.specs.Bytes.{signed, tupleAt}
+use Rattle.numbers.specs.Bytes.{signed}
+use Rattle.slots.specs.Tuples.{tupleAt}
 use borrow.Author.Needs.{needs}
 use Rattle.slots.proofs.read_tuple.Statement.{statement}
 use Rattle.slots.proofs.read_tuple.Tie as tie
@@ -34,8 +35,12 @@ to-signed-requires c κs = search needs
 returns : tie.Need-returns
 unfolding tupleAt
 returns c =
-    let o = toZ-ofZ w32 (c .to-signed .result) (record { sfits = c .to-signed .ok }) ∙ c .to-signed .ensures ∙ ap signed (c .before .read-u322 .ensures) in
-    λ i. record { position = c .before .before .before .before .read-u16 .ensures i; node = c .before .before .before .read-u162 .ensures i; sequence = c .before .before .read-u32 .ensures i; offset = o i }
+    let after-read-u322 : tie.After-read-u322 = search needs in
+    let after-read-u32 : tie.After-read-u32 = search needs in
+    let after-read-u162 : tie.After-read-u162 = search needs in
+    let after-read-u16 : tie.After-read-u16 = search needs in
+    let o = toZ-ofZ w32 (c .to-signed .result) (record { sfits = c .to-signed .ok }) ∙ c .to-signed .ensures ∙ ap signed (after-read-u322 .read-u322 .ensures) in
+    λ i. record { position = after-read-u16 .read-u16 .ensures i; node = after-read-u162 .read-u162 .ensures i; sequence = after-read-u32 .read-u32 .ensures i; offset = o i }
 
 pub read-tuple-spec : {M : Type 1} → statement M
 read-tuple-spec =

@@ -6,10 +6,11 @@ use native.Mathlib.Omega.{arith}
 use denote.Ref.{now}
 use lib.ListN.{length, replicate, length-append}
 use Rattle.names.specs.Names.{limit, rowOf}
-use Rattle.slots.specs.Bytes.{put, bytes32, rowBytes, tupleSize}
+use Rattle.numbers.specs.Bytes.{put, bytes32}
+use Rattle.slots.specs.Tuples.{rowBytes, tupleSize}
 use Rattle.slots.specs.Slots.{headSize}
-use Rattle.slots.proofs.Put.{put-more}
-use Rattle.slots.proofs.Written.{row-length, slot-bytes}
+use Rattle.numbers.proofs.Put.{put-more}
+use Rattle.slots.proofs.WrittenSlots.{row-length, slot-bytes}
 use borrow.Author.Needs.{needs}
 use Rattle.slots.proofs.write_slot.Statement.{statement}
 use Rattle.slots.proofs.write_slot.Tie as tie
@@ -61,19 +62,25 @@ same-length c = search needs
 
 returns : tie.Need-returns
 returns c =
-    let o = now (c .before .before .before .before .before .before .before .before .before .before .before .before .before .before .before .before .before .before .args .out) in
-    let p = c .before .before .before .before .before .before .before .before .before .before .before .before .before .before .before .before .before .before .args .p in
-    let a = rowOf (c .before .before .before .before .before .before .before .before .before .before .before .before .before .before .before .before .before .before .args .a) in
-    let line = c .before .before .before .before .before .before .before .before .before .before .before .before .before .before .before .before .before .before .args .line in
-    let d = c .before .before .before .before .before .before .before .before .before .before .before .before .before .before .before .before .tuples-in .result in
+    let after-write-zeros : tie.After-write-zeros = search needs in
+    let after-write-row : tie.After-write-row = search needs in
+    let after-write-u322 : tie.After-write-u322 = search needs in
+    let after-write-u32 : tie.After-write-u32 = search needs in
+    let after-tuples-in : tie.After-tuples-in = search needs in
+    let start : tie.Start = search needs in
+    let o = now (start .args .out) in
+    let p = start .args .p in
+    let a = rowOf (start .args .a) in
+    let line = start .args .line in
+    let d = after-tuples-in .tuples-in .result in
     let h : p ≤ length o = omega arith in
     let w = bytes32 (d * 16777216) in
-    let d₁ = put-more o p h w (bytes32 line) (c .before .before .before .before .before .before .before .before .before .before .before .before .before .before .write-u32 .ensures) refl (c .before .before .before .before .before .before .before .before .before .before .write-u322 .ensures) in
-    let d₂ = put-more o p h (w ++ bytes32 line) (rowBytes a) d₁ refl (c .before .before .before .before .before .before .write-row .ensures) in
+    let d₁ = put-more o p h w (bytes32 line) (after-write-u32 .write-u32 .ensures) refl (after-write-u322 .write-u322 .ensures) in
+    let d₂ = put-more o p h (w ++ bytes32 line) (rowBytes a) d₁ refl (after-write-row .write-row .ensures) in
     let l : length (w ++ bytes32 line ++ rowBytes a) ≡ headSize + tupleSize * length a = length-append (w ++ bytes32 line) (rowBytes a) ∙ ap (λ (n : ℕ). headSize + n) (row-length a) in
     let q : p + headSize + tupleSize * d ≡ p + length (w ++ bytes32 line ++ rowBytes a) = omega (arith, l) in
-    let d₃ = put-more o p h (w ++ bytes32 line ++ rowBytes a) (replicate (4 * (3 * (limit - d))) 0) d₂ q (c .before .before .write-zeros .ensures) in
-    d₃ ∙ ap (put o p) (slot-bytes line d a (c .before .before .before .before .before .before .before .before .before .before .before .before .before .before .before .before .tuples-in .ensures .0))
+    let d₃ = put-more o p h (w ++ bytes32 line ++ rowBytes a) (replicate (4 * (3 * (limit - d))) 0) d₂ q (after-write-zeros .write-zeros .ensures) in
+    d₃ ∙ ap (put o p) (slot-bytes line d a (after-tuples-in .tuples-in .ensures .0))
 
 pub write-slot-spec : {M : Type 1} → statement M
 write-slot-spec =

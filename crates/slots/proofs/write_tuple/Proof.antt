@@ -7,9 +7,10 @@ use denote.Ref.{now}
 use lib.ListN.{length}
 use mir.Syntax.{w32}
 use mir.ValLaws.{toZ-ofZ}
-use Rattle.slots.specs.Bytes.{put, bytes16, bytes32, unsigned, tupleBytes}
-use Rattle.slots.proofs.Put.{put-more}
-use Rattle.slots.proofs.Written.{pair}
+use Rattle.numbers.specs.Bytes.{put, bytes16, bytes32, unsigned}
+use Rattle.slots.specs.Tuples.{tupleBytes}
+use Rattle.numbers.proofs.Put.{put-more}
+use Rattle.numbers.proofs.NumberBytes.{pair}
 use borrow.Author.Needs.{needs}
 use Rattle.slots.proofs.write_tuple.Statement.{statement}
 use Rattle.slots.proofs.write_tuple.Tie as tie
@@ -50,15 +51,21 @@ same-length c = search needs
 returns : tie.Need-returns
 unfolding tupleBytes
 returns c =
-    let o = now (c .before .before .before .before .before .before .before .before .before .before .before .before .before .before .before .before .before .args .out) in
-    let p = c .before .before .before .before .before .before .before .before .before .before .before .before .before .before .before .before .before .args .p in
-    let t = c .before .before .before .before .before .before .before .before .before .before .before .before .before .before .before .before .before .args .t in
+    let after-write-u323 : tie.After-write-u323 = search needs in
+    let after-to-unsigned : tie.After-to-unsigned = search needs in
+    let after-struct-told : tie.After-struct-told = search needs in
+    let after-write-u322 : tie.After-write-u322 = search needs in
+    let after-write-u32 : tie.After-write-u32 = search needs in
+    let start : tie.Start = search needs in
+    let o = now (start .args .out) in
+    let p = start .args .p in
+    let t = start .args .t in
     let h : p ≤ length o = omega arith in
     let n : t .node < 65536 = omega arith in
-    let b : c .before .before .before .to-unsigned .result ≡ unsigned (t .offset) = c .before .before .before .to-unsigned .ensures ∙ ap unsigned (toZ-ofZ w32 (t .offset) (record { sfits = c .before .before .before .before .struct-told .given .1 .1 .1 .0 .1 })) in
-    let d₁ = c .before .before .before .before .before .before .before .before .before .before .before .before .write-u32 .ensures ∙ ap (put o p) (pair (t .position) (t .node) n) in
-    let d₂ = put-more o p h (bytes16 (t .position) ++ bytes16 (t .node)) (bytes32 (t .sequence)) d₁ refl (c .before .before .before .before .before .before .before .before .write-u322 .ensures) in
-    put-more o p h (bytes16 (t .position) ++ bytes16 (t .node) ++ bytes32 (t .sequence)) (bytes32 (unsigned (t .offset))) d₂ refl (c .before .before .write-u323 .ensures ∙ ap (λ (n : ℕ). put (c .before .before .before .before .before .before .before .before .write-u322 .last .0) (p + 8) (bytes32 n)) b)
+    let b : after-to-unsigned .to-unsigned .result ≡ unsigned (t .offset) = after-to-unsigned .to-unsigned .ensures ∙ ap unsigned (toZ-ofZ w32 (t .offset) (record { sfits = after-struct-told .struct-told .given .1 .1 .1 .0 .1 })) in
+    let d₁ = after-write-u32 .write-u32 .ensures ∙ ap (put o p) (pair (t .position) (t .node) n) in
+    let d₂ = put-more o p h (bytes16 (t .position) ++ bytes16 (t .node)) (bytes32 (t .sequence)) d₁ refl (after-write-u322 .write-u322 .ensures) in
+    put-more o p h (bytes16 (t .position) ++ bytes16 (t .node) ++ bytes32 (t .sequence)) (bytes32 (unsigned (t .offset))) d₂ refl (after-write-u323 .write-u323 .ensures ∙ ap (λ (n : ℕ). put (after-write-u322 .write-u322 .last .0) (p + 8) (bytes32 n)) b)
 
 pub write-tuple-spec : {M : Type 1} → statement M
 write-tuple-spec =

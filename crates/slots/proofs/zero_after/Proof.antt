@@ -6,10 +6,13 @@ use native.Mathlib.Omega.{arith}
 use denote.Ref.{now}
 use lib.ListN.{drop}
 use Rattle.names.specs.Names.{limit}
-use Rattle.slots.specs.Bytes.{allZero, isZero, tupleSize}
+use Rattle.numbers.specs.Bytes.{allZero, isZero}
+use Rattle.slots.specs.Tuples.{tupleSize}
 use Rattle.slots.specs.Slots.{headSize}
-use Rattle.slots.proofs.Zeros.{every-end, zeros-more, zeros-fail}
+use Rattle.numbers.proofs.Every.{every-end}
+use Rattle.slots.proofs.ZeroTuples.{zeros-more, zeros-fail}
 use Rattle.slots.proofs.zero_after.Statement.{statement}
+use borrow.Author.Needs.{needs}
 use Rattle.slots.proofs.zero_after.Tie as tie
 
 abbrev Inv-loop : tie.InvT-loop
@@ -19,7 +22,9 @@ abbrev μ-loop : tie.MeasureT-loop
 μ-loop s d k₀ k = k
 
 loop-holds : tie.Need-loop-holds Inv-loop μ-loop
-loop-holds c = (omega arith, omega arith, sym (every-end isZero (now (c .before .args .s)) (headSize + tupleSize * limit) (omega arith)))
+loop-holds c =
+    let start : tie.Start Inv-loop μ-loop = search needs in
+    (omega arith, omega arith, sym (every-end isZero (now (start .args .s)) (headSize + tupleSize * limit) (omega arith)))
 
 sub-k : tie.Need-sub-k Inv-loop μ-loop
 sub-k c = omega arith
@@ -37,13 +42,24 @@ loop-less : tie.Need-loop-less Inv-loop μ-loop
 loop-less c = omega arith
 
 loop-again : tie.Need-loop-again Inv-loop μ-loop
-loop-again c = (omega arith, omega arith, zeros-more (now (c .before .before .before .before .before .args .s)) (c .before .before .before .loop .k) (omega arith) (sym (c .if2 .taken) ∙ c .before .zero-at .ensures) (c .before .before .before .loop .inv .2))
+loop-again c =
+    let after-zero-at : tie.After-zero-at Inv-loop μ-loop = search needs in
+    let at-loop : tie.At-loop Inv-loop μ-loop = search needs in
+    let start : tie.Start Inv-loop μ-loop = search needs in
+    (omega arith, omega arith, zeros-more (now (start .args .s)) (at-loop .loop .k) (omega arith) (sym (c .if2 .taken) ∙ after-zero-at .zero-at .ensures) (at-loop .loop .inv .2))
 
 returns : tie.Need-returns Inv-loop μ-loop
-returns c = let e : c .before .loop .k ≡ c .before .before .before .args .d = omega arith in sym (c .before .loop .inv .2) ∙ ap (λ (k : ℕ). allZero (drop (headSize + tupleSize * k) (now (c .before .before .before .args .s)))) e
+returns c =
+    let at-loop : tie.At-loop Inv-loop μ-loop = search needs in
+    let start : tie.Start Inv-loop μ-loop = search needs in
+    let e : at-loop .loop .k ≡ start .args .d = omega arith in sym (at-loop .loop .inv .2) ∙ ap (λ (k : ℕ). allZero (drop (headSize + tupleSize * k) (now (start .args .s)))) e
 
 returns-2 : tie.Need-returns-2 Inv-loop μ-loop
-returns-2 c = zeros-fail (now (c .before .before .before .before .before .args .s)) (c .before .before .before .loop .k) (omega arith) (c .before .before .before .before .before .args .d) (omega arith) (sym (c .if2 .left) ∙ c .before .zero-at .ensures)
+returns-2 c =
+    let after-zero-at : tie.After-zero-at Inv-loop μ-loop = search needs in
+    let at-loop : tie.At-loop Inv-loop μ-loop = search needs in
+    let start : tie.Start Inv-loop μ-loop = search needs in
+    zeros-fail (now (start .args .s)) (at-loop .loop .k) (omega arith) (start .args .d) (omega arith) (sym (c .if2 .left) ∙ after-zero-at .zero-at .ensures)
 
 pub zero-after-spec : {M : Type 1} → statement M
 zero-after-spec =

@@ -6,8 +6,8 @@ use native.Mathlib.Omega.{arith}
 use denote.Ref.{now}
 use lib.Dec.{eqb}
 use borrow.Author.Tests.{eq-eqb, ne-eqb}
-use Rattle.slots.specs.Bytes.{at32, at64}
-use Rattle.slots.proofs.Zeros.{zero96}
+use Rattle.numbers.specs.Bytes.{at32, at64}
+use Rattle.slots.proofs.ZeroTuples.{zero96}
 use borrow.Author.Needs.{needs}
 use Rattle.slots.proofs.zero_at.Statement.{statement}
 use Rattle.slots.proofs.zero_at.Tie as tie
@@ -22,10 +22,15 @@ read-u32-requires : tie.Need-read-u32-requires
 read-u32-requires c κs = search needs
 
 returns : tie.Need-returns
-returns c = sym (zero96 (now (c .before .before .before .before .args .s)) (c .before .before .before .before .args .p) (omega arith) ∙ (λ i. eq-eqb (at64 (now (c .before .before .before .before .args .s)) (c .before .before .before .before .args .p)) 0 (omega arith) i && eqb (sym (c .read-u32 .ensures) i) 0))
+returns c =
+    let start : tie.Start = search needs in
+    sym (zero96 (now (start .args .s)) (start .args .p) (omega arith) ∙ (λ i. eq-eqb (at64 (now (start .args .s)) (start .args .p)) 0 (omega arith) i && eqb (sym (c .read-u32 .ensures) i) 0))
 
 returns-2 : tie.Need-returns-2
-returns-2 c = sym (zero96 (now (c .before .before .before .args .s)) (c .before .before .before .args .p) (omega arith) ∙ (λ i. ne-eqb (at64 (now (c .before .before .before .args .s)) (c .before .before .before .args .p)) 0 (λ e. c .if1 .left (c .before .read-u64 .ensures ∙ e)) i && eqb (at32 (now (c .before .before .before .args .s)) (c .before .before .before .args .p + 8)) 0))
+returns-2 c =
+    let after-read-u64 : tie.After-read-u64 = search needs in
+    let start : tie.Start = search needs in
+    sym (zero96 (now (start .args .s)) (start .args .p) (omega arith) ∙ (λ i. ne-eqb (at64 (now (start .args .s)) (start .args .p)) 0 (λ e. c .if1 .left (after-read-u64 .read-u64 .ensures ∙ e)) i && eqb (at32 (now (start .args .s)) (start .args .p + 8)) 0))
 
 pub zero-at-spec : {M : Type 1} → statement M
 zero-at-spec =

@@ -1,22 +1,30 @@
 -- `cases::asked::run_all` meets its contract. Assumes nothing.
-use Prim.Native.Nat.{_-_, _≤_}
-use mathlib.Core.Path.{_≡_}
-use borrow.Author.Needs.{needs}
+use Prim.Native.Nat.{_-_}
 use lib.ListN.{length}
+use borrow.Author.Needs.{needs}
 use Rattle.cases.proofs.asked.run_all.Statement.{statement}
 use Rattle.cases.proofs.asked.run_all.Tie as tie
 
 abbrev Inv-loop : tie.InvT-loop
-Inv-loop text at₀ at-end at = (at ≤ at-end) × (at-end ≡ length text)
+Inv-loop text log at₀ at = Unit {0}
 
 abbrev μ-loop : tie.MeasureT-loop
-μ-loop text at₀ at-end at = at-end - at
+μ-loop text log at₀ at = length text - at
 
 loop-holds : tie.Need-loop-holds Inv-loop μ-loop
 loop-holds c = search needs
 
-line-begins-requires : tie.Need-line-begins-requires Inv-loop μ-loop
-line-begins-requires c κs = search needs
+line-end-requires : tie.Need-line-end-requires Inv-loop μ-loop
+line-end-requires c κs = search needs
+
+sub-run : tie.Need-sub-run Inv-loop μ-loop
+sub-run c = search needs
+
+part-run-start : tie.Need-part-run-start Inv-loop μ-loop
+part-run-start c = search needs
+
+part-run-end : tie.Need-part-run-end Inv-loop μ-loop
+part-run-end c = search needs
 
 run-requires : tie.Need-run-requires Inv-loop μ-loop
 run-requires c κs = search needs
@@ -40,7 +48,10 @@ run-all-spec =
     Inv-loop
     μ-loop
     loop-holds
-    line-begins-requires
+    line-end-requires
+    sub-run
+    part-run-start
+    part-run-end
     run-requires
     add-at
     loop-less

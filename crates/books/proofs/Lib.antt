@@ -1,4 +1,0 @@
-pub mod Members
-pub mod Unmarked
-pub mod Along
-pub mod Demand

@@ -1,0 +1,10 @@
+pub mod TableFacts
+pub mod Routes
+pub mod OrderAndTarget
+pub mod CompareByParent
+pub mod Walk
+pub mod StepByParent
+pub mod AddedEpoch
+pub mod TableBytes
+pub mod Laws
+pub mod CaseHolds

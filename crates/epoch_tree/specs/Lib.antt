@@ -1,0 +1,4 @@
+pub mod Tables
+pub mod Tree
+pub mod Laws
+pub mod Case

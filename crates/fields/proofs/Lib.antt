@@ -1,0 +1,2 @@
+pub mod FieldInverse
+pub mod FieldAt

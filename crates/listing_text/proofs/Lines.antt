@@ -1,0 +1,70 @@
+-- The lines of a page's slots, one after the other as the code lends them, and what an answer says of the listing. Assumes nothing.
+use mathlib.Core.Path.{_≡_, refl, _∙_, sym, ap}
+use mathlib.Core.List.{List, [], _∷_, _++_, append-assoc, append-nil, map}
+use mathlib.Core.Bool.{Bool, true, false}
+use Prim.Native.Nat.{ℕ, zero, suc, _+_, _*_, _<_, _≤_}
+use native.Mathlib.Nat.{not-suc-le-zero, le-of-suc-le-suc}
+use native.Mathlib.Numerals.{add-one}
+use native.Mathlib.Omega.{arith}
+use lib.ListN.{length, take, getD, length-map, List·getD-map}
+use lib.Seq.{take-suc}
+use lib.Dec.{eqb}
+use Rattle.numbers.proofs.Bools.{and-0, and-1}
+use Rattle.numbers.specs.Bytes.{Bytes}
+use Rattle.numbers.specs.Lists.{every}
+use Rattle.slots.specs.Slots.{Slot, slotSize, slotOf, depthOf, keepsSlot}
+use Rattle.slots.proofs.RoundTrip.{kept}
+use Rattle.answers.specs.declared.Refusal.{Refusal}
+use Rattle.answers.specs.declared.Refusal.the-variants.{BadLayout, NotRising}
+use Rattle.answers.specs.declared.Answer.{Answer}
+use Rattle.answers.specs.declared.Answer.the-variants.{Accepted, Refused}
+use Rattle.answers.specs.Answers.{Test, _else_, ask, inOrder, numberOf}
+use Rattle.pages.specs.Pages.{parts, slotsOf, keepsLayout, rises, checkPage}
+use Rattle.pages.proofs.SlotBySlot.{length-parts, lent, lent-part}
+use Rattle.answers.proofs.Outcomes.{no-answer}
+use Rattle.answers.proofs.Refusals.{Passed, reached}
+use Rattle.listing_text.specs.Listing.{lineText, linesText, bookText, refusedText, answerText, checkInput, listing}
+
+lines-append : (a b : List Slot) → linesText (a ++ b) ≡ linesText a ++ linesText b
+lines-append [] b = refl
+lines-append (x ∷ a) b = ap (λ (l : Bytes). lineText x ++ l) (lines-append a b) ∙ sym (append-assoc (lineText x) (linesText a) (linesText b))
+
+every-get : {A : Type 0} (f : A → Bool) (l : List A) (k : ℕ) (d : A) → every f l ≡ true → k < length l → f (getD l k d) ≡ true
+every-get f [] k d e h = absurd (not-suc-le-zero h)
+every-get f (x ∷ l) zero d e h = and-0 (f x) (every f l) e
+every-get f (x ∷ l) (suc k) d e h = every-get f l k d (and-1 (f x) (every f l) e) (le-of-suc-le-suc h)
+
+module _ (s : Bytes) (n k : ℕ) (h : k < n) where
+  -- one line more, that of the slot lent
+  pub lines-more : linesText (take (k + 1) (map slotOf (parts n s))) ≡ linesText (take k (map slotOf (parts n s))) ++ lineText (slotOf (lent s (slotSize * k)))
+  lines-more =
+      let l = map slotOf (parts n s) in
+      let g : k < length l = omega (arith, length-map (parts n s) slotOf, length-parts n s) in
+      let e : getD l k (slotOf []) ≡ slotOf (lent s (slotSize * k)) = List·getD-map slotOf (parts n s) k [] ∙ ap slotOf (sym (lent-part s n k (slotSize * k) refl h)) in
+      rw (add-one, take-suc l k (slotOf []) g, e)
+      (lines-append (take k l) (slotOf (lent s (slotSize * k)) ∷ []) ∙ ap (λ (w : Bytes). linesText (take k l) ++ w) (append-nil (lineText (slotOf (lent s (slotSize * k))))))
+
+  -- a slot that keeps the layout has a name
+  pub deep : every keepsSlot (parts n s) ≡ true → 1 ≤ depthOf (lent s (slotSize * k))
+  deep e =
+      let g : k < length (parts n s) = rw length-parts h in
+      let v = every-get keepsSlot (parts n s) k [] e g in
+      kept (lent s (slotSize * k)) (ap keepsSlot (lent-part s n k (slotSize * k) refl h) ∙ v) .deep
+
+-- ── what is answered ──
+
+module _ (page rest : Bytes) {a : Answer} (q : a ≡ checkInput page rest) where
+  pub accepted-layout : (n : ℕ) → a ≡ Accepted n → keepsLayout page ≡ true
+  unfolding checkPage
+  accepted-layout n e =
+      let g = reached (λ x. x ≡ Accepted n) Refused (checkPage page) (λ r f. no-answer r n f) (eqb (length rest) 0 else BadLayout ∷ []) (sym q ∙ e) in
+      let tests = keepsLayout page else BadLayout ∷ rises page else NotRising ∷ [] in
+      reached (λ x. x ≡ Accepted n) Refused (Accepted (length (slotsOf page))) (λ r f. no-answer r n f) tests (g .1) .0 .0
+
+  pub accepted-text : (n : ℕ) → a ≡ Accepted n → bookText (slotsOf page) ≡ listing page rest
+  unfolding listing
+  accepted-text n e = ap (λ (x : Answer). answerText x page) (sym e ∙ q)
+
+  pub refused-text : (r : Refusal) → a ≡ Refused r → refusedText (numberOf a) ≡ listing page rest
+  unfolding listing
+  refused-text r e = ap (λ (x : Answer). refusedText (numberOf x)) e ∙ ap (λ (x : Answer). answerText x page) (sym e ∙ q)

@@ -1,0 +1,23 @@
+-- `listing_text::put_byte` meets its contract: a store of one byte is `put` of one byte. Assumes nothing.
+use mathlib.Core.Path.{refl}
+use mathlib.Core.List.{[], _∷_}
+use denote.Ref.{now}
+use lib.Seq.{sets-eq}
+use borrow.Author.Needs.{needs}
+use Rattle.listing_text.proofs.put_byte.Statement.{statement}
+use Rattle.listing_text.proofs.put_byte.Tie as tie
+
+slice-write-out : tie.Need-slice-write-out
+slice-write-out c = search needs
+
+add-result : tie.Need-add-result
+add-result c = search needs
+
+same-length : tie.Need-same-length
+same-length c = search needs
+
+returns : tie.Need-returns
+returns c = (refl, sets-eq (c .args .b ∷ []) (now (c .args .out)) (c .args .p) (c .pre))
+
+pub put-byte-spec : {M : Type 1} → statement M
+put-byte-spec = tie.close (tie.spec slice-write-out add-result same-length returns)

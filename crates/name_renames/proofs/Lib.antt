@@ -1,0 +1,16 @@
+pub mod Splits
+pub mod Lists
+pub mod Fresh
+pub mod Table
+pub mod Forward
+pub mod Gaps
+pub mod Walk
+pub mod Rules
+pub mod GivenBack
+pub mod Backward
+pub mod Validity
+pub mod CaseByIndex
+pub mod ByTest
+pub mod BackByIndex
+pub mod Starred
+pub mod Laws

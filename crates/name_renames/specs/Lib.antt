@@ -1,0 +1,4 @@
+pub mod Renaming
+pub mod Starred
+pub mod Rules
+pub mod Laws

@@ -1,0 +1,4 @@
+pub mod JoinedRows
+pub mod OneBelowByValue
+pub mod GivenRows
+pub mod Settled

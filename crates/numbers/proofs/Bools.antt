@@ -1,0 +1,26 @@
+-- Tests: joined by `&&`, with two answers, and two of numbers that hold together. Assumes nothing.
+use mathlib.Core.Path.{_≡_, refl, _∙_, sym}
+use mathlib.Core.Bool.{Bool, true, false, _&&_}
+use Prim.Native.Nat.{ℕ, _≤_}
+use native.Mathlib.Decide.{decLe}
+use native.Mathlib.Omega.{arith}
+use borrow.Author.Tests.{le-leb, lt-leb}
+use lib.Dec.{leb}
+
+pub and-0 : (a b : Bool) → a && b ≡ true → a ≡ true
+and-0 true b e = refl
+and-0 false b e = e
+
+pub and-1 : (a b : Bool) → a && b ≡ true → b ≡ true
+and-1 true b e = e
+and-1 false b e = absurd (let z : _≡_ {A = ℕ} 0 1 = cc in omega arith)
+
+pub yes-no : {A : Type 0} {b : Bool} → b ≡ true → b ≡ false → A
+yes-no p q = absurd (let z : _≡_ {A = ℕ} 0 1 = cc in omega arith)
+
+-- two tests of numbers that hold together
+pub leb-by : (a b c d : ℕ) → (a ≤ b → c ≤ d) → (c ≤ d → a ≤ b) → leb a b ≡ leb c d
+leb-by a b c d f g = elim (decLe a b) [
+  | yes h ↦ le-leb a b h ∙ sym (le-leb c d (f h))
+  | no h ↦ lt-leb a b (omega arith) ∙ sym (elim (decLe c d) [ yes k ↦ absurd (let w = g k in omega arith) | no k ↦ lt-leb c d (omega arith) ])
+]

@@ -1,0 +1,12 @@
+pub mod Bools
+pub mod Lists
+pub mod Every
+pub mod Zeros
+pub mod ReadNumbers
+pub mod Put
+pub mod NumberBytes
+pub mod Octets
+pub mod Parts
+pub mod TwosComplement
+pub mod SignedTests
+pub mod Settled

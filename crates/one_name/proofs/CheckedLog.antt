@@ -1,0 +1,79 @@
+-- What the check of a log has found (`logged`), that its names are names (`log-named`), and where its first position stands (`first-at`). Assumes nothing.
+use mathlib.Core.Path.{_≡_, _∙_, sym}
+use mathlib.Core.List.{List, [], _∷_, map}
+use mathlib.Core.Bool.{true, _&&_}
+use Prim.Native.Nat.{ℕ, zero, suc, _+_, _*_, _-_, _/_, _<_, _≤_}
+use native.Mathlib.Omega.{arith}
+use borrow.Author.Tests.{leb-true}
+use lib.Dec.{leb}
+use lib.ListN.{length, take, drop, getD}
+use lib.Seq.{getD-take}
+use Rattle.names.specs.Ordering.{Row, Rising}
+use Rattle.names.specs.Names.{isName}
+use Rattle.names.proofs.Validity.{valid-name}
+use Rattle.numbers.proofs.Bools.{and-0, and-1}
+use Rattle.names.proofs.Laws.{rising-Rising}
+use Rattle.numbers.specs.Bytes.{Bytes, at16}
+use Rattle.slots.specs.Tuples.{tupleAt}
+use Rattle.numbers.specs.Lists.{every}
+use Rattle.slots.specs.Slots.{headSize, slotSize, depthOf, nameOf, slotOf, keepsSlot}
+use Rattle.slots.proofs.RoundTrip.{kept}
+use Rattle.pages.specs.Pages.{maxSlots, parts, slotsOf, nameIn, namesOf, keepsLayout, rises, lineIsZero, isLog}
+use Rattle.pages.proofs.SlotBySlot.{length-slots, length-names}
+use Rattle.pages.proofs.RoundTrip.{laid, page-names}
+use Rattle.name_renames.specs.Renaming.{firstPosition}
+
+pub record Logged (log : Bytes) : Type 0 where
+  pub layout : keepsLayout log ≡ true
+  pub risen : rises log ≡ true
+  pub rising : Rising (namesOf log)
+  pub some : 1 ≤ length (namesOf log)
+  pub few : length (namesOf log) ≤ maxSlots
+  pub count : length (namesOf log) ≡ length log / slotSize
+
+pub logged : (log : Bytes) → isLog log ≡ true → Logged log
+unfolding isLog
+logged log e =
+    let a = keepsLayout log in
+    let b = rises log in
+    let d = leb 1 (length (slotsOf log)) in
+    let e₁ = and-0 (a && b && d) (every lineIsZero (slotsOf log)) e in
+    let e₂ = and-0 (a && b) d e₁ in
+    let n = length-names log (length log / slotSize) in
+    record {
+      layout = and-0 a b e₂;
+      risen = and-1 a b e₂;
+      rising = rising-Rising (namesOf log) (and-1 a b e₂);
+      some = omega (arith, leb-true 1 (length (slotsOf log)) (and-1 (a && b) d e₁), length-slots log);
+      few = omega (arith, laid log (and-0 a b e₂) .few);
+      count = n;
+    }
+
+-- ── "p = position of r0's first tuple" ──
+
+-- of a slot with a name
+slot-position : (s : Bytes) (l : List Row) (n : ℕ) → depthOf s ≡ suc n → firstPosition (nameOf s ∷ l) ≡ at16 s headSize
+unfolding tupleAt
+slot-position s l n e = rw e
+
+part-position : (s : Bytes) → at16 (take slotSize s) headSize ≡ at16 s headSize
+part-position s = λ i. getD-take slotSize s 8 0 (omega arith) i * 256 + getD-take slotSize s 9 0 (omega arith) i
+
+pub first-at : (log : Bytes) → isLog log ≡ true → at16 log headSize ≡ firstPosition (namesOf log)
+first-at log e =
+    let n = length log / slotSize in
+    go n (logged log e .some) (laid log (logged log e .layout) .good) (length-names log n)
+  where
+    go : (n : ℕ) → 1 ≤ length (namesOf log) → every keepsSlot (parts n log) ≡ true → length (namesOf log) ≡ n →
+        at16 log headSize ≡ firstPosition (map nameIn (map slotOf (parts n log)))
+    go zero h g q = absurd (omega arith)
+    go (suc n) h g q =
+        let first = take slotSize log in
+        let rest = parts n (drop slotSize log) in
+        let k = kept first (and-0 (keepsSlot first) (every keepsSlot rest) g) in
+        sym (slot-position first (map nameIn (map slotOf rest)) (depthOf first - 1) (omega (arith, k .deep)) ∙ part-position log)
+
+-- ── its names ──
+
+pub log-named : (log : Bytes) (k : ℕ) → isLog log ≡ true → k < length (namesOf log) → isName (getD (namesOf log) k []) ≡ true
+log-named log k e h = valid-name (page-names log (logged log e .layout) k h)

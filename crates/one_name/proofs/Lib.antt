@@ -1,0 +1,3 @@
+pub mod CheckedLog
+pub mod PlaceInLog
+pub mod Settled

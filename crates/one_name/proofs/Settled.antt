@@ -1,0 +1,26 @@
+-- The promises settle their outcomes: any two outcomes that a contract allows are equal, of a name that is given whether it fits and its
+-- row. `Learnt` is what a caller learns from the contract, of any arguments a, result r and parameters at exit s. Assumes nothing.
+use mathlib.Core.Path.{_≡_}
+use Rattle.names.specs.declared.Joined.{Joined}
+use Rattle.names.specs.Names.{rowOf}
+use Rattle.numbers.proofs.Settled.{one}
+use Rattle.one_name.proofs.name_below.Reads as name-below
+use Rattle.one_name.proofs.walk.Reads as walk
+use Rattle.one_name.proofs.rename_name.Reads as rename-name
+use Rattle.one_name.proofs.take_back_name.Reads as take-back-name
+
+abbrev SameGiven : Joined → Joined → Type 0
+SameGiven r r' = (r .fits ≡ r' .fits) × (rowOf (r .name) ≡ rowOf (r' .name))
+
+pub name-below-settled : (κs : _) (a : _) (r : _) (s : _) (r' : _) (s' : _) → name-below.Learnt κs a r s → name-below.Learnt κs a r' s' → r ≡ r'
+name-below-settled κs a r s r' s' p q = one p q
+
+pub walk-settled : (κs : _) (a : _) (r : _) (s : _) (r' : _) (s' : _) → walk.Learnt κs a r s → walk.Learnt κs a r' s' →
+    (r .below ≡ r' .below) × (r .case ≡ r' .case) × SameGiven (r .renamed) (r' .renamed)
+walk-settled κs a r s r' s' p q = (one (p .0 .0) (q .0 .0), one (p .0 .1) (q .0 .1), (one (p .1 .0) (q .1 .0), one (p .1 .1) (q .1 .1)))
+
+pub rename-name-settled : (κs : _) (a : _) (r : _) (s : _) (r' : _) (s' : _) → rename-name.Learnt κs a r s → rename-name.Learnt κs a r' s' → SameGiven r r'
+rename-name-settled κs a r s r' s' p q = (one (p .0) (q .0), one (p .1) (q .1))
+
+pub take-back-name-settled : (κs : _) (a : _) (r : _) (s : _) (r' : _) (s' : _) → take-back-name.Learnt κs a r s → take-back-name.Learnt κs a r' s' → SameGiven r r'
+take-back-name-settled κs a r s r' s' p q = (one (p .0) (q .0), one (p .1) (q .1))

@@ -1,0 +1,103 @@
+-- `page_renames::take_back_checked` meets its contract. Assumes nothing.
+use native.Mathlib.Omega.{arith}
+use denote.Ref.{now}
+use lib.ListN.{length}
+use Rattle.pages.specs.Pages.{namesOf}
+use Rattle.answers.proofs.Outcomes.{refused, accepted}
+use Rattle.name_renames.specs.Renaming.{takeBack}
+use Rattle.page_renames.specs.Renames.{takeBackTests, takeBackOutcome}
+use Rattle.page_renames.proofs.FirstRefusal.{asked}
+use Rattle.page_renames.proofs.LastRefusal.{own-refused, all-fit, short, done, back-fit}
+use borrow.Author.Needs.{needs}
+use Rattle.page_renames.proofs.take_back_checked.Statement.{statement}
+use Rattle.page_renames.proofs.take_back_checked.Tie as tie
+
+check-back-requires : tie.Need-check-back-requires
+check-back-requires c κs = search needs
+
+enum-known-checked : tie.Need-enum-known-checked
+enum-known-checked c = search needs
+
+enum-told : tie.Need-enum-told
+enum-told c = search needs
+
+-- 8
+returns : tie.Need-returns
+unfolding takeBackOutcome
+returns c =
+    let start : tie.Start = search needs in
+    let checked : tie.After-check-back = search needs in
+    let a = start .args in
+    let s = now (a .page) in
+    let g = now (a .log) in
+    let own = takeBackTests s g (a .author) in
+    let f = takeBack (a .author) (namesOf g) in
+    let room = length (now (a .out)) in
+    let fit = back-fit s g (a .author) in
+    let went-on : tie.After-enum-told = search needs in
+    refused _ _ _ (short s g (a .author) own f fit room (start .pre) (checked .check-back .ensures) (went-on .enum-told .given .1) (omega arith))
+
+write-back-requires : tie.Need-write-back-requires
+write-back-requires c κs =
+    let start : tie.Start = search needs in
+    let checked : tie.After-check-back = search needs in
+    let a = start .args in
+    let s = now (a .page) in
+    let g = now (a .log) in
+    let own = takeBackTests s g (a .author) in
+    let f = takeBack (a .author) (namesOf g) in
+    let room = length (now (a .out)) in
+    let fit = back-fit s g (a .author) in
+    let went-on : tie.After-enum-told = search needs in
+    let v = asked s g (a .author) (start .pre) in
+    let fits = all-fit s g (a .author) own f fit room (start .pre) (checked .check-back .ensures) (went-on .enum-told .given .1) in
+    ((v .logged, omega arith), fits)
+
+-- the call's own refusals
+returns-2 : tie.Need-returns-2
+unfolding takeBackOutcome
+returns-2 c =
+    let start : tie.Start = search needs in
+    let checked : tie.After-check-back = search needs in
+    let a = start .args in
+    let s = now (a .page) in
+    let g = now (a .log) in
+    let own = takeBackTests s g (a .author) in
+    let f = takeBack (a .author) (namesOf g) in
+    let room = length (now (a .out)) in
+    let fit = back-fit s g (a .author) in
+    let told : tie.After-checked = search needs in
+    refused _ _ _ (own-refused s g (a .author) own f fit room (start .pre) (checked .check-back .ensures) _ (told .checked .given .1))
+
+same-length : tie.Need-same-length
+same-length c = search needs
+
+returns-3 : tie.Need-returns-3
+unfolding takeBackOutcome
+returns-3 c =
+    let start : tie.Start = search needs in
+    let checked : tie.After-check-back = search needs in
+    let a = start .args in
+    let s = now (a .page) in
+    let g = now (a .log) in
+    let own = takeBackTests s g (a .author) in
+    let f = takeBack (a .author) (namesOf g) in
+    let room = length (now (a .out)) in
+    let fit = back-fit s g (a .author) in
+    let went-on : tie.After-enum-told = search needs in
+    let written : tie.After-write-back = search needs in
+    let whole = done s g (a .author) own f fit room (start .pre) (checked .check-back .ensures) (went-on .enum-told .given .1) (omega arith) in
+    accepted _ _ _ _ _ whole (written .write-back .ensures)
+
+pub take-back-checked-spec : {M : Type 1} → statement M
+take-back-checked-spec =
+    tie.close
+    (tie.spec
+    check-back-requires
+    enum-known-checked
+    enum-told
+    returns
+    write-back-requires
+    returns-2
+    same-length
+    returns-3)

@@ -1,0 +1,143 @@
+-- `page_renames::write_back` meets its contract. Assumes nothing.
+use mathlib.Core.Path.{_≡_, refl, _∙_, ap}
+use Prim.Native.Nat.{_-_, _*_, _/_, _<_, _≤_}
+use native.Mathlib.Omega.{arith}
+use denote.Ref.{now}
+use lib.ListN.{length}
+use Rattle.names.specs.Ordering.{Row}
+use Rattle.names.specs.Names.{rowOf}
+use Rattle.numbers.specs.Bytes.{put}
+use Rattle.slots.specs.Slots.{slotSize, lineOf, slotBytes}
+use Rattle.pages.specs.Pages.{namesOf}
+use Rattle.pages.proofs.SlotBySlot.{lent, lent-length}
+use Rattle.name_renames.specs.Renaming.{takeBack}
+use Rattle.page_renames.proofs.SlotBySlot.{standing, standing-first, standing-last, standing-on, same-room, name-made}
+use borrow.Author.Needs.{needs}
+use Rattle.page_renames.proofs.write_back.Statement.{statement}
+use Rattle.page_renames.proofs.write_back.Tie as tie
+
+abbrev Inv-loop : tie.InvT-loop
+Inv-loop page log author out₀ n i₀ out i =
+    (n ≡ length page / slotSize)
+    × (i ≤ n)
+    × (length out ≡ length out₀)
+    × (standing (takeBack author (namesOf log)) page out i ≡ standing (takeBack author (namesOf log)) page out₀ 0)
+
+abbrev μ-loop : tie.MeasureT-loop
+μ-loop page log author out₀ n i₀ out i = n - i
+
+loop-holds : tie.Need-loop-holds Inv-loop μ-loop
+loop-holds c = (refl, omega arith, refl, refl)
+
+mul-at : tie.Need-mul-at Inv-loop μ-loop
+mul-at c = omega arith
+
+add-end : tie.Need-add-end Inv-loop μ-loop
+add-end c = omega arith
+
+sub-read-name : tie.Need-sub-read-name Inv-loop μ-loop
+sub-read-name c = omega arith
+
+part-read-name-start : tie.Need-part-read-name-start Inv-loop μ-loop
+part-read-name-start c = omega arith
+
+part-read-name-end : tie.Need-part-read-name-end Inv-loop μ-loop
+part-read-name-end c = omega arith
+
+read-name-requires : tie.Need-read-name-requires Inv-loop μ-loop
+read-name-requires c κs =
+    let start : tie.Start Inv-loop μ-loop = search needs in
+    let at-loop : tie.At-loop Inv-loop μ-loop = search needs in
+    let s = now (start .args .page) in
+    let i = at-loop .loop .i in
+    lent-length s (length s / slotSize) i (slotSize * i) refl (omega arith) refl
+
+take-back-name-requires : tie.Need-take-back-name-requires Inv-loop μ-loop
+take-back-name-requires c κs = search needs
+
+sub-carry : tie.Need-sub-carry Inv-loop μ-loop
+sub-carry c = omega arith
+
+part-carry-start : tie.Need-part-carry-start Inv-loop μ-loop
+part-carry-start c = omega arith
+
+part-carry-end : tie.Need-part-carry-end Inv-loop μ-loop
+part-carry-end c = omega arith
+
+carry-requires : tie.Need-carry-requires Inv-loop μ-loop
+carry-requires c κs =
+    let start : tie.Start Inv-loop μ-loop = search needs in
+    let at-loop : tie.At-loop Inv-loop μ-loop = search needs in
+    let s = now (start .args .page) in
+    let i = at-loop .loop .i in
+    let h : i < length s / slotSize = omega arith in
+    (lent-length s (length s / slotSize) i (slotSize * i) refl h refl, omega (arith, at-loop .loop .inv .2))
+
+add-i : tie.Need-add-i Inv-loop μ-loop
+add-i c = omega arith
+
+loop-less : tie.Need-loop-less Inv-loop μ-loop
+loop-less c = omega arith
+
+loop-again : tie.Need-loop-again Inv-loop μ-loop
+loop-again c =
+    let start : tie.Start Inv-loop μ-loop = search needs in
+    let at-loop : tie.At-loop Inv-loop μ-loop = search needs in
+    let after-read-name : tie.After-read-name Inv-loop μ-loop = search needs in
+    let after-take-back-name : tie.After-take-back-name Inv-loop μ-loop = search needs in
+    let after-carry : tie.After-carry Inv-loop μ-loop = search needs in
+    let s = now (start .args .page) in
+    let l = namesOf (now (start .args .log)) in
+    let f = takeBack (start .args .author) l in
+    let i = at-loop .loop .i in
+    let in-loop : tie.In-loop Inv-loop μ-loop = search needs in
+    let h : i < length s / slotSize = omega (arith, in-loop .loop-test .taken, at-loop .loop .inv .0) in
+    let o = at-loop .loop .out in
+    let d = lent s (slotSize * i) in
+    let read = after-read-name .read-name in
+    let back = after-take-back-name .take-back-name in
+    let next = after-carry .carry .last .1 .1 .0 in
+    let m = name-made f s i h (start .pre .1) (back .result) (rowOf (read .result)) (read .ensures) (back .ensures) in
+    let e = after-carry .carry .ensures ∙ ap (λ (a : Row). put o (slotSize * i) (slotBytes (record { line = lineOf d; name = a }))) m in
+    let r : length s ≤ length o = omega (arith, at-loop .loop .inv .2) in
+    let room = same-room f s i h (start .pre .1) o next r e ∙ at-loop .loop .inv .2 in
+    let stands = standing-on f s i h (start .pre .1) o next r e ∙ at-loop .loop .inv .3 in
+    (refl, omega arith, room, stands)
+
+same-length : tie.Need-same-length Inv-loop μ-loop
+same-length c = search needs
+
+returns : tie.Need-returns Inv-loop μ-loop
+returns c =
+    let start : tie.Start Inv-loop μ-loop = search needs in
+    let at-loop : tie.At-loop Inv-loop μ-loop = search needs in
+    let s = now (start .args .page) in
+    let l = namesOf (now (start .args .log)) in
+    let f = takeBack (start .args .author) l in
+    let i = at-loop .loop .i in
+    let o = at-loop .loop .out in
+    standing-last f s o i (omega arith) ∙ at-loop .loop .inv .3 ∙ standing-first f s (now (start .args .out))
+
+pub write-back-spec : {M : Type 1} → statement M
+write-back-spec =
+    tie.close
+    (tie.spec
+    Inv-loop
+    μ-loop
+    loop-holds
+    mul-at
+    add-end
+    sub-read-name
+    part-read-name-start
+    part-read-name-end
+    read-name-requires
+    take-back-name-requires
+    sub-carry
+    part-carry-start
+    part-carry-end
+    carry-requires
+    add-i
+    loop-less
+    loop-again
+    same-length
+    returns)

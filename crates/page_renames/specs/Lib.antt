@@ -1,0 +1,2 @@
+pub mod Renames
+pub mod Laws

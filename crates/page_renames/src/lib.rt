@@ -1,0 +1,307 @@
+// Renaming a page and taking a rename back. Document 01, "Taking it back" and "What comes back"; the definitions are in specs/, and what
+// becomes of one name is that of crates/name_renames, by crates/one_name.
+ghost use mathlib.Core.Path.{_≡_};
+ghost use mathlib.Core.List.{flatten};
+ghost use mathlib.Core.Bool.{true, _&&_};
+ghost use Prim.Native.Nat.{_+_, _≤_};
+ghost use lib.ListN.{length};
+ghost use Rattle.names.specs.Ordering.{compareRows, isLess};
+ghost use Rattle.names.specs.Names.{rowOf, fits};
+ghost use Rattle.numbers.specs.Lists.{every};
+ghost use Rattle.numbers.specs.Bytes.{put};
+ghost use Rattle.slots.specs.Slots.{slotSize, nameOf, lineOf, keepsSlot, slotBytes};
+ghost use Rattle.pages.specs.Pages.{keepsLayout, slotsOf, namesOf, pieces, rises, isLog};
+ghost use Rattle.answers.specs.Answers.{ask, inOrder, leaves};
+ghost use Rattle.pages.specs.Places.{below};
+ghost use Rattle.name_renames.specs.Renaming.{rename as renameRow, takeBack as takeBackRow, fresh};
+ghost use Rattle.page_renames.specs.Renames.{carried, allFit, openingTests, renameTests, takeBackTests, renameOutcome, takeBackOutcome};
+use names::Author;
+use names::LIMIT;
+use names::Name;
+use answers::Answer;
+use answers::Refusal;
+use slots::HEAD;
+use slots::SLOT;
+
+// ── renaming a page: what decides ──
+
+// The name in a slot does not have (A, s) as node and sequence of its first tuple.
+fn is_fresh(slot: &[u8], author: Author) -> bool
+    requires { ⌜ keepsSlot (now slot) ≡ true ⌝ }
+    ensures { λ r. ⌜ r ≡ fresh author (nameOf (now (slot .entry))) ⌝ }
+{
+    let t = slots::read_tuple(slot, HEAD);
+    if t.node != author.node {
+        return true;
+    }
+    t.sequence != author.sequence
+}
+
+// "no name .. has (A, s) as node and sequence of its first tuple", of a page or of a log.
+fn all_fresh(page: &[u8], author: Author) -> bool
+    requires { ⌜ keepsLayout (now page) ≡ true ⌝ }
+    ensures { λ r. ⌜ r ≡ every (fresh author) (namesOf (now (page .entry))) ⌝ }
+{
+    let n = page.len() / SLOT;
+    let mut k: usize = 0;
+    while k < n {
+        let at = SLOT * k;
+        let end = at + SLOT;
+        if !is_fresh(&page[at..end], author) {
+            return false;
+        }
+        k += 1;
+    }
+    true
+}
+
+// Whether the name in a slot, renamed, has at most LIMIT tuples, and how many names of the log are known to be below it.
+struct Fit {
+    fits: bool,
+    below: usize,
+}
+
+// "a name gains at most one tuple", so only a name of LIMIT tuples is renamed to see.
+fn renamed_fits(log: &[u8], author: Author, slot: &[u8], j: usize) -> Fit
+    requires { ⌜ (isLog (now log) ≡ true) × (length (now slot) ≡ slotSize) × (j ≤ below (nameOf (now slot)) (namesOf (now log))) ⌝ }
+    ensures { λ r. ⌜ (r .fits ≡ fits (renameRow author (namesOf (now (log .entry))) (nameOf (now (slot .entry))))) × (r .below ≤ below (nameOf (now (slot .entry))) (namesOf (now (log .entry)))) ⌝ }
+{
+    if slots::depth(slot) < LIMIT {
+        return Fit {
+            fits: true,
+            below: j,
+        };
+    }
+    let w = one_name::walk(log, author, slots::read_name(slot), j);
+    let r = w.renamed;
+    Fit {
+        fits: r.fits,
+        below: w.below,
+    }
+}
+
+// Every name of the page, renamed, has at most LIMIT tuples. Page and log are walked side by side.
+fn all_renamed_fit(page: &[u8], log: &[u8], author: Author) -> bool
+    requires { ⌜ (rises (now page) ≡ true) × (isLog (now log) ≡ true) ⌝ }
+    ensures { λ r. ⌜ r ≡ allFit (renameRow author (namesOf (now (log .entry)))) (now (page .entry)) ⌝ }
+{
+    let n = page.len() / SLOT;
+    let mut i: usize = 0;
+    let mut j: usize = 0;
+    loop {
+        if n <= i {
+            break true;
+        }
+        let at = SLOT * i;
+        let end = at + SLOT;
+        let r = renamed_fits(log, author, &page[at..end], j);
+        if !r.fits {
+            break false;
+        }
+        j = r.below;
+        i += 1;
+    }
+}
+
+// ── writing ──
+
+// "Line numbers travel with their names": the slot written from p on has that name, and the given slot's line number.
+fn carry(slot: &[u8], name: Name, out: &mut [u8], p: usize)
+    requires { ⌜ (length (now slot) ≡ slotSize) × (p + slotSize ≤ length (now out)) ⌝ }
+    ensures { λ _. ⌜ now (out .exit) ≡ put (now (out .entry)) p (slotBytes (record { line = lineOf (now (slot .entry)); name = rowOf name })) ⌝ }
+{
+    slots::write_slot(out, p, slots::read_line(slot), name);
+}
+
+// The page renamed, from the start of out. Page and log are walked side by side.
+fn write_renamed(page: &[u8], log: &[u8], author: Author, out: &mut [u8])
+    requires { ⌜ (rises (now page) ≡ true) × (isLog (now log) ≡ true) × (length (now page) ≤ length (now out)) ⌝ }
+    requires { ⌜ allFit (renameRow author (namesOf (now log))) (now page) ≡ true ⌝ }
+    ensures { λ _. ⌜ now (out .exit) ≡ put (now (out .entry)) 0 (flatten (pieces (carried (renameRow author (namesOf (now (log .entry)))) (slotsOf (now (page .entry)))))) ⌝ }
+{
+    let n = page.len() / SLOT;
+    let mut i: usize = 0;
+    let mut j: usize = 0;
+    while i < n {
+        let at = SLOT * i;
+        let end = at + SLOT;
+        let x = slots::read_name(&page[at..end]);
+        let w = one_name::walk(log, author, x, j);
+        let renamed = w.renamed;
+        let name = renamed.name;
+        carry(&page[at..end], name, out, at);
+        j = w.below;
+        i += 1;
+    }
+}
+
+// The page taken back, from the start of out.
+fn write_back(page: &[u8], log: &[u8], author: Author, out: &mut [u8])
+    requires { ⌜ (isLog (now log) ≡ true) × (length (now page) ≤ length (now out)) ⌝ }
+    requires { ⌜ allFit (takeBackRow author (namesOf (now log))) (now page) ≡ true ⌝ }
+    ensures { λ _. ⌜ now (out .exit) ≡ put (now (out .entry)) 0 (flatten (pieces (carried (takeBackRow author (namesOf (now (log .entry)))) (slotsOf (now (page .entry)))))) ⌝ }
+{
+    let n = page.len() / SLOT;
+    let mut i: usize = 0;
+    while i < n {
+        let at = SLOT * i;
+        let end = at + SLOT;
+        let c = slots::read_name(&page[at..end]);
+        let r = one_name::take_back_name(log, author, c);
+        let old = r.name;
+        carry(&page[at..end], old, out, at);
+        i += 1;
+    }
+}
+
+// ── the calls ──
+
+// What stands before a rename or a taking back: a refusal, or none so far.
+enum Checked {
+    Refused(Refusal),
+    Passed,
+}
+
+// 1, 2, 3, 4.
+fn check(page: &[u8], log: &[u8], author: Author) -> Checked
+    ensures { λ r. ⌜ r ≡ inOrder (openingTests (now (page .entry)) (now (log .entry)) author) Checked.Refused Checked.Passed ⌝ }
+{
+    if !pages::page_ok(page) {
+        return Checked::Refused(Refusal::BadLayout);
+    }
+    if !pages::page_rises(page) {
+        return Checked::Refused(Refusal::NotRising);
+    }
+    if !pages::log_ok(log) {
+        return Checked::Refused(Refusal::BadLog);
+    }
+    if author.node < 1 {
+        return Checked::Refused(Refusal::NoAuthor);
+    }
+    Checked::Passed
+}
+
+// 5, 6.
+fn check_rename(page: &[u8], log: &[u8], author: Author) -> Checked
+    requires { ⌜ inOrder (openingTests (now page) (now log) author) Checked.Refused Checked.Passed ≡ Checked.Passed ⌝ }
+    ensures { λ r. ⌜ r ≡ inOrder (renameTests (now (page .entry)) (now (log .entry)) author) Checked.Refused Checked.Passed ⌝ }
+{
+    if !all_fresh(page, author) {
+        return Checked::Refused(Refusal::NotFresh);
+    }
+    if !all_fresh(log, author) {
+        return Checked::Refused(Refusal::NotFresh);
+    }
+    if !all_renamed_fit(page, log, author) {
+        return Checked::Refused(Refusal::TooDeep);
+    }
+    Checked::Passed
+}
+
+// a is below b, and so it went before.
+fn still_rises(rises: bool, a: Name, b: Name) -> bool
+    ensures { λ r. ⌜ r ≡ (rises && isLess (compareRows (rowOf a) (rowOf b))) ⌝ }
+{
+    if !rises {
+        return false;
+    }
+    one_name::name_below(a, b)
+}
+
+// 7, where the results do not rise.
+fn check_rising(rises: bool) -> Checked
+    ensures { λ r. ⌜ r ≡ ask rises (Checked.Refused Refusal.NotRisingBack) Checked.Passed ⌝ }
+{
+    if !rises {
+        return Checked::Refused(Refusal::NotRisingBack);
+    }
+    Checked::Passed
+}
+
+// 6, 7: one walk along the page, which keeps the result before.
+fn check_back(page: &[u8], log: &[u8], author: Author) -> Checked
+    requires { ⌜ inOrder (openingTests (now page) (now log) author) Checked.Refused Checked.Passed ≡ Checked.Passed ⌝ }
+    ensures { λ r. ⌜ r ≡ inOrder (takeBackTests (now (page .entry)) (now (log .entry)) author) Checked.Refused Checked.Passed ⌝ }
+{
+    let n = page.len() / SLOT;
+    let mut last = name_values::empty();
+    let mut rises = true;
+    let mut i: usize = 0;
+    loop {
+        if n <= i {
+            break check_rising(rises);
+        }
+        let r = one_name::take_back_name(log, author, pages::name_of(page, i));
+        if !r.fits {
+            break Checked::Refused(Refusal::TooDeep);
+        }
+        let name = r.name;
+        rises = still_rises(rises, last, name);
+        last = name;
+        i += 1;
+    }
+}
+
+// 5, 6, 8; else the page renamed. Nothing is written before every refusal is ruled out.
+fn rename_checked(page: &[u8], log: &[u8], author: Author, out: &mut [u8]) -> Answer
+    requires { ⌜ inOrder (openingTests (now page) (now log) author) Checked.Refused Checked.Passed ≡ Checked.Passed ⌝ }
+    ensures { λ r. ⌜ r ≡ renameOutcome (now (page .entry)) (now (log .entry)) author (length (now (out .entry))) .answer ⌝ }
+    ensures { λ r. ⌜ now (out .exit) ≡ leaves (renameOutcome (now (page .entry)) (now (log .entry)) author (length (now (out .entry)))) (now (out .entry)) ⌝ }
+{
+    let checked = check_rename(page, log, author);
+    match checked {
+        Checked::Refused(r) => Answer::Refused(r),
+        Checked::Passed => {
+            if out.len() < page.len() {
+                return Answer::Refused(Refusal::Short);
+            }
+            write_renamed(page, log, author, out);
+            let renamed = page.len() / SLOT;
+            Answer::Accepted(renamed)
+        }
+    }
+}
+
+// 6, 7, 8; else the page taken back. Nothing is written before every refusal is ruled out.
+fn take_back_checked(page: &[u8], log: &[u8], author: Author, out: &mut [u8]) -> Answer
+    requires { ⌜ inOrder (openingTests (now page) (now log) author) Checked.Refused Checked.Passed ≡ Checked.Passed ⌝ }
+    ensures { λ r. ⌜ r ≡ takeBackOutcome (now (page .entry)) (now (log .entry)) author (length (now (out .entry))) .answer ⌝ }
+    ensures { λ r. ⌜ now (out .exit) ≡ leaves (takeBackOutcome (now (page .entry)) (now (log .entry)) author (length (now (out .entry)))) (now (out .entry)) ⌝ }
+{
+    let checked = check_back(page, log, author);
+    match checked {
+        Checked::Refused(r) => Answer::Refused(r),
+        Checked::Passed => {
+            if out.len() < page.len() {
+                return Answer::Refused(Refusal::Short);
+            }
+            write_back(page, log, author, out);
+            let taken_back = page.len() / SLOT;
+            Answer::Accepted(taken_back)
+        }
+    }
+}
+
+// 1, 2, 3, 4, 5, 6, 8; else the page with its names renamed.
+pub fn rename(page: &[u8], log: &[u8], author: Author, out: &mut [u8]) -> Answer
+    ensures { λ r. ⌜ r ≡ renameOutcome (now (page .entry)) (now (log .entry)) author (length (now (out .entry))) .answer ⌝ }
+    ensures { λ r. ⌜ now (out .exit) ≡ leaves (renameOutcome (now (page .entry)) (now (log .entry)) author (length (now (out .entry)))) (now (out .entry)) ⌝ }
+{
+    let checked = check(page, log, author);
+    match checked {
+        Checked::Refused(r) => Answer::Refused(r),
+        Checked::Passed => rename_checked(page, log, author, out),
+    }
+}
+
+// 1, 2, 3, 4, 6, 7, 8; else the page with its names taken back. "Taking back asks for no freshness."
+pub fn take_back(page: &[u8], log: &[u8], author: Author, out: &mut [u8]) -> Answer
+    ensures { λ r. ⌜ r ≡ takeBackOutcome (now (page .entry)) (now (log .entry)) author (length (now (out .entry))) .answer ⌝ }
+    ensures { λ r. ⌜ now (out .exit) ≡ leaves (takeBackOutcome (now (page .entry)) (now (log .entry)) author (length (now (out .entry)))) (now (out .entry)) ⌝ }
+{
+    let checked = check(page, log, author);
+    match checked {
+        Checked::Refused(r) => Answer::Refused(r),
+        Checked::Passed => take_back_checked(page, log, author, out),
+    }
+}

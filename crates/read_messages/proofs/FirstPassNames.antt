@@ -1,0 +1,100 @@
+-- The first pass along the names: whether those passed are names and rise, how many they are and what follows them (`Passing`, a loop's
+-- invariant, with its start, its turns and its ends). Assumes nothing.
+use mathlib.Core.Path.{_≡_, refl, sym, ap, _∙_}
+use mathlib.Core.List.{List, [], _∷_}
+use mathlib.Core.Bool.{Bool, true, false, _&&_, and-false}
+use Prim.Native.Nat.{ℕ, _+_, _-_, _<_, _≤_}
+use native.Mathlib.Omega.{arith}
+use lib.ListN.{length, drop}
+use Rattle.names.specs.Ordering.{Row, compareRows, isLess, rising}
+use Rattle.names.specs.Names.{isName}
+use Rattle.numbers.specs.Bytes.{Bytes}
+use Rattle.numbers.specs.Lists.{every}
+use Rattle.pages.proofs.SlotBySlot.{rising-cons}
+use Rattle.fields.specs.Fields.{fieldHead, sizeIn}
+use Rattle.messages.specs.Messages.{nameFits, nameStands, tuplesIn, namesWithin, afterNames}
+use Rattle.read_messages.specs.FirstPass.{goodNames}
+use Rattle.read_messages.proofs.AtCursor.{names-next, after-next, name-long}
+
+-- names that come after the row b
+abbrev goodAfter : Row → List Row → Bool
+goodAfter b l = every nameFits l && rising (b ∷ l)
+
+-- the row of no tuples is below every name
+good-first : (l : List Row) → goodAfter [] l ≡ goodNames l
+unfolding rising compareRows isName
+good-first [] = refl
+good-first ([] ∷ l) = refl
+good-first ((t ∷ a) ∷ l) = refl
+
+good-last : (b : Row) → true ≡ goodAfter b []
+unfolding rising
+good-last b = refl
+
+module _ (b a : Row) (l : List Row) where
+  good-on : nameFits a ≡ true → isLess (compareRows b a) ≡ true → goodAfter b (a ∷ l) ≡ goodAfter a l
+  good-on f g = rw (rising-cons b a l, f, g)
+
+  good-unfit : nameFits a ≡ false → goodAfter b (a ∷ l) ≡ false
+  good-unfit f = rw f
+
+  good-falls : isLess (compareRows b a) ≡ false → goodAfter b (a ∷ l) ≡ false
+  good-falls g = rw (rising-cons b a l, g) (and-false (every nameFits (a ∷ l)))
+
+-- k names were passed from c on, the last of them b; the cursor is at p
+pub record Passing (s : Bytes) (c most : ℕ) (b : Row) (p k : ℕ) : Type 0 where
+  pub few : k ≤ most
+  pub within : p ≤ length s
+  pub good : goodAfter b (namesWithin (most - k) (drop p s)) ≡ goodNames (namesWithin most (drop c s))
+  pub count : k + length (namesWithin (most - k) (drop p s)) ≡ length (namesWithin most (drop c s))
+  pub rest : afterNames (most - k) (drop p s) ≡ afterNames most (drop c s)
+
+pub passing-first : (s : Bytes) (c most : ℕ) → c ≤ length s → Passing s c most [] c 0
+passing-first s c most h =
+    let e : most - 0 ≡ most = omega arith in
+    let n = ap (λ (n : ℕ). namesWithin n (drop c s)) e in
+    record {
+      few = omega arith;
+      within = h;
+      good = ap (goodAfter []) n ∙ good-first (namesWithin most (drop c s));
+      count = let z = ap length n in omega arith;
+      rest = ap (λ (n : ℕ). afterNames n (drop c s)) e;
+    }
+
+module _ {s : Bytes} {c most : ℕ} {b : Row} {p k : ℕ} (v : Passing s c most b p k) where
+  -- no name stands there, or there were enough
+  pub passing-end : namesWithin (most - k) (drop p s) ≡ [] → afterNames (most - k) (drop p s) ≡ drop p s
+      → (true ≡ goodNames (namesWithin most (drop c s))) × (k ≡ length (namesWithin most (drop c s)))
+      × (drop p s ≡ afterNames most (drop c s)) × (p ≤ length s)
+  passing-end e f = (
+    good-last b ∙ sym (ap (goodAfter b) e) ∙ v .good,
+    let n = v .count in let z = ap length e in omega arith,
+    sym f ∙ v .rest,
+    v .within,
+  )
+
+  module _ (h : k < most) (e : nameStands (drop p s) ≡ true) where
+    abbrev after : List Row
+    after = namesWithin (most - (k + 1)) (drop (p + (fieldHead + sizeIn (drop p s))) s)
+
+    abbrev here : Row
+    here = tuplesIn (drop p s)
+
+    turn : goodAfter b (here ∷ after) ≡ goodNames (namesWithin most (drop c s))
+    turn = sym (ap (goodAfter b) (names-next s p most k h e)) ∙ v .good
+
+    pub passing-unfit : nameFits (tuplesIn (drop p s)) ≡ false → false ≡ goodNames (namesWithin most (drop c s))
+    passing-unfit f = sym (good-unfit b here after f) ∙ turn
+
+    pub passing-falls : isLess (compareRows b (tuplesIn (drop p s))) ≡ false → false ≡ goodNames (namesWithin most (drop c s))
+    passing-falls g = sym (good-falls b here after g) ∙ turn
+
+    pub passing-on : nameFits (tuplesIn (drop p s)) ≡ true → isLess (compareRows b (tuplesIn (drop p s))) ≡ true
+        → Passing s c most (tuplesIn (drop p s)) (p + (fieldHead + sizeIn (drop p s))) (k + 1)
+    passing-on f g = record {
+      few = omega arith;
+      within = name-long s p e;
+      good = sym (good-on b here after f g) ∙ turn;
+      count = let n = v .count in let z = ap length (names-next s p most k h e) in omega arith;
+      rest = sym (after-next s p most k h e) ∙ v .rest;
+    }

@@ -1,3 +1,0 @@
-pub mod Renaming
-pub mod Starred
-pub mod Paper

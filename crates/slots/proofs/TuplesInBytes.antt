@@ -1,0 +1,49 @@
+-- Tuples one after the other in a row of bytes. Assumes nothing.
+use mathlib.Core.Path.{_≡_, refl, _∙_, sym, ap}
+use mathlib.Core.List.{List, _∷_}
+use Prim.Native.Nat.{ℕ, zero, suc, _+_, _*_, _<_, _≤_}
+use native.Mathlib.Nat.{le-of-suc-le-suc, not-suc-le-zero}
+use native.Mathlib.Omega.{arith}
+use borrow.Author.Count.{below-more}
+use lib.ListN.{length, getD, set, take, drop}
+use lib.Seq.{getD-set-same, getD-set-other, getD-take, length-take-le, ext-getD}
+use Rattle.names.specs.Ordering.{Row}
+use Rattle.names.specs.Names.{m}
+use Rattle.numbers.specs.Bytes.{Bytes, signed}
+use Rattle.slots.specs.Tuples.{tupleAt, tuplesAt, tupleSize}
+use Rattle.numbers.proofs.ReadNumbers.{two-on, four-on}
+
+pub length-tuplesAt : (s : Bytes) (p n : ℕ) → length (tuplesAt s p n) ≡ n
+length-tuplesAt s p zero = refl
+length-tuplesAt s p (suc n) = ap suc (length-tuplesAt s (p + tupleSize) n)
+
+pub getD-tuplesAt : (s : Bytes) (p n j : ℕ) → j < n → getD (tuplesAt s p n) j m ≡ tupleAt s (p + tupleSize * j)
+getD-tuplesAt s p zero j h = absurd (not-suc-le-zero h)
+getD-tuplesAt s p (suc n) zero h = ap (tupleAt s) (omega arith)
+getD-tuplesAt s p (suc n) (suc j) h = getD-tuplesAt s (p + tupleSize) n j (le-of-suc-le-suc h) ∙ ap (tupleAt s) (omega arith)
+
+pub take-tuplesAt : (s : Bytes) (p n k : ℕ) → k ≤ n → take k (tuplesAt s p n) ≡ tuplesAt s p k
+take-tuplesAt s p n zero h = refl
+take-tuplesAt s p zero (suc k) h = absurd (not-suc-le-zero h)
+take-tuplesAt s p (suc n) (suc k) h = ap (λ (l : Row). tupleAt s p ∷ l) (take-tuplesAt s (p + tupleSize) n k (le-of-suc-le-suc h))
+
+-- tuples that stand d bytes further on
+module _ (d : ℕ) (s : Bytes) where
+  tuple-on : (p q : ℕ) → q ≡ d + p → tupleAt (drop d s) p ≡ tupleAt s q
+  unfolding tupleAt
+  tuple-on p q e = λ i. record {
+    position = two-on d s p q e i;
+    node = two-on d s (p + 2) (q + 2) (omega arith) i;
+    sequence = four-on d s (p + 4) (q + 4) (omega arith) i;
+    offset = signed (four-on d s (p + 8) (q + 8) (omega arith) i);
+  }
+
+  pub tuples-on : (p q n : ℕ) → q ≡ d + p → tuplesAt (drop d s) p n ≡ tuplesAt s q n
+  tuples-on p q zero e = refl
+  tuples-on p q (suc n) e = λ i. tuple-on p q e i ∷ tuples-on (p + tupleSize) (q + tupleSize) n (omega arith) i
+
+pub filled-all : (s : Bytes) (p n : ℕ) (l : Row) → n ≤ length l → ((j : ℕ) → j < n → getD l j m ≡ tupleAt s (p + tupleSize * j)) → take n l ≡ tuplesAt s p n
+filled-all s p n l h f =
+    let e = length-take-le n l h in
+    ext-getD m (take n l) (tuplesAt s p n) (e ∙ sym (length-tuplesAt s p n))
+    (λ i k. let k' : i < n = omega arith in getD-take n l i m k' ∙ f i k' ∙ sym (getD-tuplesAt s p n i k'))

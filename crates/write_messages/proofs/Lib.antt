@@ -1,0 +1,2 @@
+pub mod NamesIntoFields
+pub mod Settled
