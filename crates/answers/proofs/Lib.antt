@@ -1,3 +1,4 @@
 pub mod Refusals
 pub mod Outcomes
+pub mod AnswerLaws
 pub mod Settled

@@ -10,17 +10,8 @@ use Rattle.numbers.specs.Bytes.{Bytes}
 use Rattle.answers.specs.declared.Refusal.{Refusal}
 use Rattle.answers.specs.declared.Answer.{Answer}
 use Rattle.answers.specs.declared.Answer.the-variants.{Accepted, Refused}
+use Rattle.answers.specs.Laws.{Passed, FirstFails, here, later, RefusedBy, test, after}
 use Rattle.answers.specs.Answers.{Outcome, Test, ask, inOrder, refuse}
-
--- every test passes: a fact for each, in their order
-abbrev pub Passed : List Test → Type 0
-Passed [] = Unit
-Passed (t ∷ tests) = (t .passes ≡ true) × Passed tests
-
--- the first test that fails is one of r
-pub data FirstFails (r : Refusal) : List Test → Type 0 where
-  here : {t : Test} {tests : List Test} → t .passes ≡ false → t .refusal ≡ r → FirstFails r (t ∷ tests)
-  later : {t : Test} {tests : List Test} → t .passes ≡ true → FirstFails r tests → FirstFails r (t ∷ tests)
 
 module _ {A : Type 0} (refusing : Refusal → A) (next : A) where
   pub passed : (tests : List Test) → Passed tests → inOrder tests refusing next ≡ next
@@ -74,11 +65,6 @@ pub accepted-passes : (x : Outcome) (n : ℕ) (tests : List Test) → inOrder te
 accepted-passes x n tests e =
     let g = reached (λ y. y .answer ≡ Accepted n) refuse x (λ r f. not-accepted f) tests e in
     (g .0, passed refuse x tests (g .0))
-
--- refused with r: r's test is the first that fails, or all pass and what comes after them refuses with r
-pub data RefusedBy (r : Refusal) (tests : List Test) (x : Outcome) : Type 0 where
-  test : FirstFails r tests → RefusedBy r tests x
-  after : Passed tests → x .answer ≡ Refused r → RefusedBy r tests x
 
 pub refused-first : {r : Refusal} (x : Outcome) (tests : List Test) → inOrder tests refuse x .answer ≡ Refused r → RefusedBy r tests x
 refused-first x [] e = after tt e

@@ -27,7 +27,8 @@ use Rattle.answers.specs.declared.Refusal.the-variants.{Present, Absent, Full}
 use Rattle.pages.proofs.SlotBySlot.{length-slots}
 use Rattle.answers.proofs.Outcomes.{write-accepted}
 use Rattle.pages.proofs.PageOutcomes.{page-again}
-use Rattle.answers.proofs.Refusals.{Passed, accepted-passes}
+use Rattle.answers.specs.Laws.{Passed}
+use Rattle.answers.proofs.Refusals.{accepted-passes}
 use Rattle.pages.proofs.RoundTrip.{laid, slots-back, page-slots, written-page}
 use Rattle.edits.specs.Edits.{placed, without, editTests, insertOutcome, removeOutcome}
 use Rattle.edits.specs.Laws.{IsPage, givesBack, InsertLaw, RemoveLaw}

@@ -20,7 +20,8 @@ use Rattle.answers.specs.declared.Refusal.{Refusal}
 use Rattle.answers.specs.declared.Refusal.the-variants.{Short, Present, Absent, Full}
 use Rattle.pages.proofs.SlotBySlot.{length-slots, length-names}
 use Rattle.answers.proofs.Outcomes.{writes-short, writes}
-use Rattle.answers.proofs.Refusals.{Passed, refuses, failed, reached}
+use Rattle.answers.specs.Laws.{Passed}
+use Rattle.answers.proofs.Refusals.{refuses, failed, reached}
 use Rattle.pages.proofs.RoundTrip.{laid}
 use Rattle.edits.specs.declared.Checked.the-variants.{Refused as NotChecked, Found}
 use Rattle.edits.specs.Edits.{placed, without, editTests, insertOutcome, removeOutcome}

@@ -11,9 +11,9 @@ ghost use Rattle.pages.specs.Places.{placeOf};
 ghost use Rattle.answers.specs.Answers.{inOrder, leaves};
 ghost use Rattle.edits.specs.Edits.{editTests, insertOutcome, removeOutcome};
 use answers::Answer;
+use answers::Refusal;
 use pages::PAGE;
 use pages::Place;
-use answers::Refusal;
 use slots::SLOT;
 
 // The page with the slot before slot k, from the start of out. What is copied is copied once.

@@ -16,6 +16,7 @@ use Rattle.numbers.specs.Bytes.{Bytes, Octets, at16}
 use Rattle.numbers.proofs.ReadNumbers.{two-on, four-on}
 use Rattle.numbers.proofs.Octets.{octets-take, octets-drop}
 use Rattle.numbers.proofs.Lists.{flat, flat-none, flat-append}
+use Rattle.numbers.proofs.Parts.{length-parts}
 use Rattle.epoch_tree.specs.Tables.{Entry, entrySize, zeroEntry, entryAt, entryIn, entryOf, entryParts, entriesOf, entryBytes, entryPieces, isTable, keepsTable, added}
 use Rattle.epoch_tree.specs.Laws.{Addable}
 use Rattle.epoch_tree.proofs.TableFacts.{Table, table}
@@ -99,12 +100,8 @@ table-back s k h = all-back (length s / entrySize) s k (whole s h)
 
 -- ── an entry by its place ──
 
-length-parts : (n : ℕ) (s : Bytes) → length (entryParts n s) ≡ n
-length-parts zero s = refl
-length-parts (suc n) s = ap suc (length-parts n (drop entrySize s))
-
 pub length-entries : (s : Bytes) → length (entriesOf s) ≡ length s / entrySize
-length-entries s = length-map (entryParts (length s / entrySize) s) entryOf ∙ length-parts (length s / entrySize) s
+length-entries s = length-map (entryParts (length s / entrySize) s) entryOf ∙ length-parts entrySize (length s / entrySize) s
 
 -- the entry that stands n bytes further on
 entry-on : (n : ℕ) (s : Bytes) (p q : ℕ) → q ≡ n + p → entryIn (drop n s) p ≡ entryIn s q

@@ -7,6 +7,7 @@ use mathlib.Core.Bool.{Bool, true, false, not, _&&_, _||_}
 use lib.ListN.{length, take, drop, getD}
 use lib.Dec.{eqb, leb, ltb}
 use Rattle.names.specs.Names.{within}
+use Rattle.numbers.specs.Lists.{firstParts, equalParts}
 use Rattle.numbers.specs.Bytes.{Bytes, at16, at32, bytes16, bytes32}
 
 -- "entries of 8 bytes"
@@ -31,11 +32,10 @@ entryIn s p = record { node = at16 s p; sequence = at32 s (p + 2); parent = at16
 
 -- the first n entries' bytes
 abbrev pub entryParts : ℕ → Bytes → List Bytes
-entryParts zero s = []
-entryParts (suc n) s = take entrySize s ∷ entryParts n (drop entrySize s)
+entryParts n s = firstParts entrySize n s
 
 abbrev pub entryPartsOf : Bytes → List Bytes
-entryPartsOf s = entryParts (length s / entrySize) s
+entryPartsOf s = equalParts entrySize s
 
 abbrev pub entryOf : Bytes → Entry
 entryOf s = entryIn s 0

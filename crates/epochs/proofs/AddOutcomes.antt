@@ -16,7 +16,8 @@ use Rattle.answers.specs.declared.Answer.the-variants.{Accepted}
 use Rattle.answers.specs.declared.Refusal.{Refusal}
 use Rattle.answers.specs.declared.Refusal.the-variants.{NoAuthor, Short, BadTable, NoEpoch, Listed, TableFull}
 use Rattle.answers.proofs.Outcomes.{writes-short, writes, write-accepted}
-use Rattle.answers.proofs.Refusals.{Passed, FirstFails, here, later, passed, failed, accepted-passes}
+use Rattle.answers.specs.Laws.{Passed, FirstFails, here, later}
+use Rattle.answers.proofs.Refusals.{passed, failed, accepted-passes}
 use Rattle.epoch_tree.specs.Tables.{Entry, entrySize, maxEntries, entriesOf, entryBytes, entryPieces, listed, keepsTable, added}
 use Rattle.epoch_tree.specs.Laws.{Addable}
 use Rattle.epoch_tree.proofs.AddedEpoch.{added-length}

@@ -13,7 +13,8 @@ use Rattle.answers.specs.declared.Refusal.{Refusal}
 use Rattle.answers.specs.declared.Refusal.the-variants.{BadTable}
 use Rattle.answers.specs.declared.Answer.the-variants.{Accepted, Refused}
 use Rattle.answers.proofs.Outcomes.{no-answer}
-use Rattle.answers.proofs.Refusals.{Passed, reached}
+use Rattle.answers.specs.Laws.{Passed}
+use Rattle.answers.proofs.Refusals.{reached}
 use Rattle.epoch_tree.specs.declared.Step.{Step}
 use Rattle.epoch_tree.specs.Tables.{entriesOf, entryBytes, entryPieces, keepsTable, added}
 use Rattle.epoch_tree.specs.Tree.{nextStep}

@@ -10,11 +10,11 @@ ghost use Rattle.answers.specs.Answers.{leaves};
 ghost use Rattle.epoch_tree.specs.Tables.{entrySize, entriesOf, entryAt, entryBytes, isFirst, samePair, listed, keepsEntry, keepsFrom, keepsTable};
 ghost use Rattle.epoch_tree.specs.Tree.{parentOf, compareKeys, compareEpochs, greater, target as targetOf, stepTo};
 ghost use Rattle.epochs.specs.Calls.{checkTable, stepNumber, stepIndex, numberIn, indexIn, answerOf, nextStepOutcome, entryBy, addOutcome};
+use answers::Answer;
+use answers::Refusal;
 use epoch_tree::Step;
 use names::Author;
 use names::Order;
-use answers::Answer;
-use answers::Refusal;
 
 // "entries of 8 bytes: node u16, sequence u32, parent index u16": the entry's size, and the places in it.
 pub const ENTRY: usize = 8;

@@ -1,2 +1,3 @@
 pub mod FieldInverse
 pub mod FieldAt
+pub mod Settled

@@ -22,7 +22,8 @@ use Rattle.answers.specs.declared.Answer.the-variants.{Accepted, Refused}
 use Rattle.answers.specs.declared.Refusal.{Refusal}
 use Rattle.answers.specs.declared.Refusal.the-variants.{BadLayout, NotRising, BadLog, NoAuthor, NotFresh, TooDeep, NotRisingBack, Short, Present, Absent, Full, NoNewName, BadTable, NoEpoch, Malformed, NoGap, Listed, TableFull}
 use Rattle.answers.specs.Answers.{Outcome, Test, _else_, inOrder, check, countOf, refuse, accept, write}
-use Rattle.answers.proofs.Refusals.{Passed, whichever}
+use Rattle.answers.specs.Laws.{Passed}
+use Rattle.answers.proofs.Refusals.{whichever}
 use Rattle.pages.specs.Pages.{maxSlots, slotsOf, namesOf, pieces, keepsLayout, rises, lineIsZero, isLog, checkPage, checkLog}
 use Rattle.pages.specs.Places.{has}
 use Rattle.pages.proofs.SlotBySlot.{length-slots}

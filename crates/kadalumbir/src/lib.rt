@@ -11,11 +11,11 @@ ghost use Rattle.page_renames.specs.Renames.{renameOutcome, takeBackOutcome};
 ghost use Rattle.epochs.specs.Calls.{checkTable, numberIn, indexIn, answerOf, nextStepOutcome, addOutcome};
 ghost use Rattle.messages.specs.Calls.{readOutcome, numbersRead, writeOutcome};
 ghost use Rattle.kadalumbir.specs.Library.{packed, named, newSlotOutcome, numbers};
+use answers::Answer;
+use answers::Refusal;
 use messages::Numbers;
 use names::Author;
 use names::Name;
-use answers::Answer;
-use answers::Refusal;
 use slots::SLOT;
 
 // answer × 2³² + count

@@ -22,7 +22,8 @@ use Rattle.answers.specs.Answers.{Test, _else_, ask, inOrder, numberOf}
 use Rattle.pages.specs.Pages.{parts, slotsOf, keepsLayout, rises, checkPage}
 use Rattle.pages.proofs.SlotBySlot.{length-parts, lent, lent-part}
 use Rattle.answers.proofs.Outcomes.{no-answer}
-use Rattle.answers.proofs.Refusals.{Passed, reached}
+use Rattle.answers.specs.Laws.{Passed}
+use Rattle.answers.proofs.Refusals.{reached}
 use Rattle.listing_text.specs.Listing.{lineText, linesText, bookText, refusedText, answerText, checkInput, listing}
 
 lines-append : (a b : List Slot) → linesText (a ++ b) ≡ linesText a ++ linesText b

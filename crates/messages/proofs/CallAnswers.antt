@@ -19,7 +19,8 @@ use Rattle.pages.specs.Pages.{pieces}
 use Rattle.numbers.proofs.Lists.{flat, flat-none}
 use Rattle.pages.proofs.RoundTrip.{written-length}
 use Rattle.answers.proofs.Outcomes.{write-accepted, writes, writes-short}
-use Rattle.answers.proofs.Refusals.{here, RefusedBy, test, after, passed, failed, accepted-passes, refused-first}
+use Rattle.answers.specs.Laws.{here, RefusedBy, test, after}
+use Rattle.answers.proofs.Refusals.{passed, failed, accepted-passes, refused-first}
 use Rattle.messages.specs.declared.Numbers.{Numbers}
 use Rattle.messages.specs.Messages.{messageBytes, namesIn, partsIn, keepsMessage}
 use Rattle.messages.specs.Calls.{bare, readOutcome, partsGiven, single, mayWrite, writeOutcome}

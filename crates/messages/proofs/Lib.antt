@@ -9,3 +9,4 @@ pub mod CallAnswers
 pub mod CallsInverse
 pub mod SlotsAreALog
 pub mod Laws
+pub mod Settled

@@ -9,6 +9,7 @@ use Rattle.names.proofs.first_of.Reads as first-of
 use Rattle.names.proofs.compare_tuples.Reads as compare-tuples
 use Rattle.names.proofs.tuples_in.Reads as tuples-in
 use Rattle.names.proofs.compare.Reads as compare
+use Rattle.names.proofs.is_below.Reads as is-below
 use Rattle.names.proofs.compare_to_one.Reads as compare-to-one
 
 pub is-less-settled : (κs : _) (a : _) (r : _) (s : _) (r' : _) (s' : _) → is-less.Learnt κs a r s → is-less.Learnt κs a r' s' → r ≡ r'
@@ -31,6 +32,9 @@ tuples-in-settled κs a r s r' s' p q = one (p .0) (q .0)
 
 pub compare-settled : (κs : _) (a : _) (r : _) (s : _) (r' : _) (s' : _) → compare.Learnt κs a r s → compare.Learnt κs a r' s' → r ≡ r'
 compare-settled κs a r s r' s' p q = one p q
+
+pub is-below-settled : (κs : _) (a : _) (r : _) (s : _) (r' : _) (s' : _) → is-below.Learnt κs a r s → is-below.Learnt κs a r' s' → r ≡ r'
+is-below-settled κs a r s r' s' p q = one p q
 
 pub compare-to-one-settled : (κs : _) (a : _) (r : _) (s : _) (r' : _) (s' : _) → compare-to-one.Learnt κs a r s → compare-to-one.Learnt κs a r' s' → r ≡ r'
 compare-to-one-settled κs a r s r' s' p q = one p q

@@ -5,7 +5,7 @@ use mathlib.Core.Logic.{_⊎_}
 use mathlib.Core.Bool.{true}
 use Rattle.names.specs.declared.Tuple.{Tuple}
 use Rattle.names.specs.declared.Order.the-variants.{Less, Same, More}
-use Rattle.names.specs.Ordering.{Row, compareRows, _<ᵗ_, _<ⁿ_}
+use Rattle.names.specs.Ordering.{Row, compareTuples, compareRows, rising, _<ᵗ_, _<ⁿ_, Rising}
 use Rattle.names.specs.Names.{isName, m, M, ordinary, lowered, oneBelow}
 
 pub record Laws : Type 0 where
@@ -14,6 +14,12 @@ pub record Laws : Type 0 where
   pub less : (a b : Row) → compareRows a b ≡ Less → a <ⁿ b
   pub same : (a b : Row) → compareRows a b ≡ Same → a ≡ b
   pub more : (a b : Row) → compareRows a b ≡ More → b <ⁿ a
+  -- so do those of tuples, and the test and the relation "strictly rising"
+  pub tuple-less : (s t : Tuple) → compareTuples s t ≡ Less → s <ᵗ t
+  pub tuple-same : (s t : Tuple) → compareTuples s t ≡ Same → s ≡ t
+  pub tuple-more : (s t : Tuple) → compareTuples s t ≡ More → t <ᵗ s
+  pub test-rises : (l : List Row) → rising l ≡ true → Rising l
+  pub rises-test : {l : List Row} → Rising l → rising l ≡ true
   -- it is a strict order
   pub not-below-itself : {a : Row} → ¬ (a <ⁿ a)
   pub in-turn : {a b c : Row} → a <ⁿ b → b <ⁿ c → a <ⁿ c

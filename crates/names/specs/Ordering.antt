@@ -1,6 +1,6 @@
 -- The order of tuples and of names: document 01, "Names", and 001, section 2.1. It stands here twice: as the comparison
--- that a function computes, and as the relation "below", with one constructor for each reason. proofs/Laws.antt has that
--- the two agree (`triT`, `triN`) and the laws of the order.
+-- that a function computes, and as the relation "below", with one constructor for each reason. specs/Laws.antt has that
+-- the two agree, and the laws of the order.
 use Prim.Native.Nat.{ℕ, _<_}
 use mathlib.Core.Path.{_≡_}
 use mathlib.Core.List.{List, [], _∷_}

@@ -150,6 +150,13 @@ pub fn compare(a: Name, b: Name) -> Order
     }
 }
 
+// a is below b.
+pub fn is_below(a: Name, b: Name) -> bool
+    ensures { λ r. ⌜ r ≡ isLess (compareRows (rowOf a) (rowOf b)) ⌝ }
+{
+    is_less(compare(a, b))
+}
+
 // A name compared with the name of one tuple.
 pub fn compare_to_one(a: Name, t: Tuple) -> Order
     ensures { λ r. ⌜ r ≡ compareRows (rowOf a) (t ∷ []) ⌝ }

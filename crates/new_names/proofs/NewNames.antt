@@ -32,7 +32,8 @@ use Rattle.pages.specs.Pages.{slotsOf, nameIn, namesOf, keepsLayout, rises}
 use Rattle.pages.specs.Places.{has, placeOf, below as countBelow}
 use Rattle.pages.proofs.FindByHalving.{index-below, to-left, to-right, missed}
 use Rattle.answers.proofs.Outcomes.{no-answer}
-use Rattle.answers.proofs.Refusals.{Passed, reached}
+use Rattle.answers.specs.Laws.{Passed}
+use Rattle.answers.proofs.Refusals.{reached}
 use Rattle.pages.proofs.RoundTrip.{page-names}
 use Rattle.new_names.specs.NewNames.{firstBefore, firstAfter, rest, own, beforeTuple, closeBy, newName, nameBefore, nameAfter, Named, refuseName, answerName, gapTests, newNameOutcome}
 use Rattle.new_names.specs.Laws.{Under, Between, InGap, NewNameLaw}

@@ -8,12 +8,12 @@ ghost use lib.ListN.{length, drop};
 ghost use Rattle.names.specs.Names.{rowOf, valueOf};
 ghost use Rattle.pages.specs.Pages.{namesOf};
 ghost use Rattle.new_names.specs.NewNames.{firstBefore, firstAfter, rest, own as ownTuple, beforeTuple, closeBy, newName, nameBefore, refuseName, answerName, newNameOutcome, Says};
+use answers::Answer;
+use answers::Refusal;
 use names::Author;
 use names::Name;
 use names::Order;
 use names::Tuple;
-use answers::Answer;
-use answers::Refusal;
 use slots::SLOT;
 
 // "First positions count 0 for a missing a and 65535 for a missing b."

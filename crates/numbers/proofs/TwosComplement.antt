@@ -35,7 +35,6 @@ unsigned-signed n h = elim (decLt n 2147483648) [
   | no k ↦ ap unsigned (signed-neg n (omega arith)) ∙ omega arith
 ]
 
-
 -- an offset of 32 bits
 pub data Word : ℤ → Type 0 where
   high : {n : ℕ} → n < 2147483648 → Word (pos n)

@@ -46,7 +46,6 @@ zero64 s p h =
     ∙ (λ i. zero32 s p (omega arith) i && zero32 s (p + 4) (omega arith) i)
     ∙ zero-by (at64 s p) (at32 s p) (at32 s (p + 4)) (λ e. omega arith) (λ e. omega arith) (λ e f. omega arith)
 
-
 -- zeros are nothing but zeros
 pub all-zeros : (l : Bytes) → allZero l ≡ true → l ≡ replicate (length l) 0
 all-zeros [] e = refl
@@ -55,11 +54,9 @@ all-zeros (x ∷ l) e =
     let b = all-zeros l (and-1 (eqb x 0) (allZero l) e) in
     λ i. a i ∷ b i
 
-
 pub zeros-zero : (n : ℕ) → allZero (replicate n 0) ≡ true
 zeros-zero zero = refl
 zeros-zero (suc n) = zeros-zero n
-
 
 -- four zeros more
 pub zeros-on : (k : ℕ) → replicate {A = ℕ} (4 * (k + 1)) 0 ≡ replicate (4 * k) 0 ++ (0 ∷ 0 ∷ 0 ∷ 0 ∷ [])

@@ -4,16 +4,12 @@ use mathlib.Core.Path.{_≡_}
 use Rattle.names.specs.declared.Joined.{Joined}
 use Rattle.names.specs.Names.{rowOf}
 use Rattle.numbers.proofs.Settled.{one}
-use Rattle.one_name.proofs.name_below.Reads as name-below
 use Rattle.one_name.proofs.walk.Reads as walk
 use Rattle.one_name.proofs.rename_name.Reads as rename-name
 use Rattle.one_name.proofs.take_back_name.Reads as take-back-name
 
 abbrev SameGiven : Joined → Joined → Type 0
 SameGiven r r' = (r .fits ≡ r' .fits) × (rowOf (r .name) ≡ rowOf (r' .name))
-
-pub name-below-settled : (κs : _) (a : _) (r : _) (s : _) (r' : _) (s' : _) → name-below.Learnt κs a r s → name-below.Learnt κs a r' s' → r ≡ r'
-name-below-settled κs a r s r' s' p q = one p q
 
 pub walk-settled : (κs : _) (a : _) (r : _) (s : _) (r' : _) (s' : _) → walk.Learnt κs a r s → walk.Learnt κs a r' s' →
     (r .below ≡ r' .below) × (r .case ≡ r' .case) × SameGiven (r .renamed) (r' .renamed)

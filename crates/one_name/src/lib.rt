@@ -12,13 +12,13 @@ ghost use Rattle.names.specs.Names.{rowOf, isName, oneBelow, Gives, m, M};
 ghost use Rattle.pages.specs.Pages.{maxSlots, namesOf, rises, isLog};
 ghost use Rattle.pages.specs.Places.{below, placeOf};
 ghost use Rattle.name_renames.specs.Renaming.{firstPosition, lead as leadTuple, N, caseOf, ifBelow, rename as renameRow, under as underRow, over as overRow, backBetween, stripBelow, stripAbove, takeBack as takeBackRow};
+use name_renames::Case;
 use names::Author;
 use names::Joined;
 use names::Name;
 use names::Order;
 use names::Tuple;
 use pages::Place;
-use name_renames::Case;
 use slots::HEAD;
 use slots::SLOT;
 
@@ -195,11 +195,7 @@ pub fn rename_name(log: &[u8], author: Author, x: Name) -> Joined
 fn is_below(a: Name, t: Tuple) -> bool
     ensures { λ r. ⌜ r ≡ isLess (compareRows (rowOf a) (t ∷ [])) ⌝ }
 {
-    match names::compare_to_one(a, t) {
-        Order::Less => true,
-        Order::Same => false,
-        Order::More => false,
-    }
+    names::is_less(names::compare_to_one(a, t))
 }
 
 // A name is above the name of one tuple.
@@ -221,11 +217,7 @@ fn begins(a: Name, t: Tuple) -> bool
         return false;
     }
     let s = a.tuples;
-    match names::compare_tuples(s[0], t) {
-        Order::Less => false,
-        Order::Same => true,
-        Order::More => false,
-    }
+    names::is_same(names::compare_tuples(s[0], t))
 }
 
 // r·m·v
@@ -243,23 +235,12 @@ fn ahead(r: Name, v: Name) -> Joined
     name_values::join_by(name_values::one_below(r), name_values::high_marker(), v)
 }
 
-// a is below b.
-pub fn name_below(a: Name, b: Name) -> bool
-    ensures { λ r. ⌜ r ≡ isLess (compareRows (rowOf a) (rowOf b)) ⌝ }
-{
-    match names::compare(a, b) {
-        Order::Less => true,
-        Order::Same => false,
-        Order::More => false,
-    }
-}
-
 // "If v is below r0 the result is v, else one below r0, then M, then v."
 fn under(r: Name, v: Name) -> Joined
     requires { ⌜ isName (rowOf r) ≡ true ⌝ }
     ensures { λ s. ⌜ Gives s (underRow (rowOf r) (rowOf v)) ⌝ }
 {
-    if name_below(v, r) {
+    if names::is_below(v, r) {
         return whole(v);
     }
     ahead(r, v)
@@ -269,7 +250,7 @@ fn under(r: Name, v: Name) -> Joined
 fn over(r: Name, v: Name) -> Joined
     ensures { λ s. ⌜ Gives s (overRow (rowOf r) (rowOf v) (rowOf v)) ⌝ }
 {
-    if name_below(r, v) {
+    if names::is_below(r, v) {
         return whole(v);
     }
     behind(r, v)
@@ -281,7 +262,7 @@ fn between(r: Name, q: Name, t: Name) -> Joined
     requires { ⌜ isName (rowOf q) ≡ true ⌝ }
     ensures { λ s. ⌜ Gives s (backBetween (rowOf r) (rowOf q) (rowOf t)) ⌝ }
 {
-    if name_below(r, t) {
+    if names::is_below(r, t) {
         return under(q, t);
     }
     behind(r, t)

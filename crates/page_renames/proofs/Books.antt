@@ -30,7 +30,8 @@ use Rattle.answers.specs.declared.Refusal.{Refusal}
 use Rattle.pages.proofs.WrittenOctets.{written-octets}
 use Rattle.answers.proofs.Outcomes.{write-accepted}
 use Rattle.pages.proofs.PageOutcomes.{page-again}
-use Rattle.answers.proofs.Refusals.{Passed as AllPass, passed, accepted-passes}
+use Rattle.answers.specs.Laws.{Passed as AllPass}
+use Rattle.answers.proofs.Refusals.{passed, accepted-passes}
 use Rattle.pages.proofs.RoundTrip.{page-slots}
 use Rattle.page_renames.specs.Renames.{carried, areFresh, allFit, openingTests, renameTests, takeBackTests, renameOutcome, takeBackOutcome}
 use Rattle.page_renames.specs.Laws.{Laws}

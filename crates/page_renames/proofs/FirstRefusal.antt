@@ -9,7 +9,8 @@ use Rattle.names.specs.declared.Author.{Author}
 use Rattle.numbers.specs.Bytes.{Bytes}
 use Rattle.answers.specs.Answers.{Outcome, Test, inOrder, refuse}
 use Rattle.answers.specs.declared.Refusal.{Refusal}
-use Rattle.answers.proofs.Refusals.{Passed as AllPass, FirstFails, passed, failed, goes-on, refuses}
+use Rattle.answers.specs.Laws.{Passed as AllPass, FirstFails}
+use Rattle.answers.proofs.Refusals.{passed, failed, goes-on, refuses}
 use Rattle.page_renames.specs.declared.Checked.{Checked}
 use Rattle.page_renames.specs.declared.Checked.the-variants.{Refused, Passed}
 use Rattle.page_renames.specs.Renames.{openingTests}

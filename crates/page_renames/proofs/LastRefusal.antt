@@ -23,7 +23,8 @@ use Rattle.answers.specs.declared.Refusal.{Refusal}
 use Rattle.answers.specs.declared.Refusal.the-variants.{Short}
 use Rattle.answers.proofs.Outcomes.{writes-short, writes}
 use Rattle.pages.proofs.SlotBySlot.{length-slots}
-use Rattle.answers.proofs.Refusals.{Passed as AllPass, passed, failed}
+use Rattle.answers.specs.Laws.{Passed as AllPass}
+use Rattle.answers.proofs.Refusals.{passed, failed}
 use Rattle.pages.proofs.RoundTrip.{laid}
 use Rattle.numbers.proofs.Lists.{flat, flat-none}
 use Rattle.page_renames.specs.declared.Checked.{Checked}

@@ -15,11 +15,11 @@ ghost use Rattle.answers.specs.Answers.{ask, inOrder, leaves};
 ghost use Rattle.pages.specs.Places.{below};
 ghost use Rattle.name_renames.specs.Renaming.{rename as renameRow, takeBack as takeBackRow, fresh};
 ghost use Rattle.page_renames.specs.Renames.{carried, allFit, openingTests, renameTests, takeBackTests, renameOutcome, takeBackOutcome};
+use answers::Answer;
+use answers::Refusal;
 use names::Author;
 use names::LIMIT;
 use names::Name;
-use answers::Answer;
-use answers::Refusal;
 use slots::HEAD;
 use slots::SLOT;
 
@@ -205,7 +205,7 @@ fn still_rises(rises: bool, a: Name, b: Name) -> bool
     if !rises {
         return false;
     }
-    one_name::name_below(a, b)
+    names::is_below(a, b)
 }
 
 // 7, where the results do not rise.

@@ -3,4 +3,5 @@ pub mod FindByHalving
 pub mod RoundTrip
 pub mod WrittenOctets
 pub mod PageOutcomes
+pub mod PageLaws
 pub mod Settled

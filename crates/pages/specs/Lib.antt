@@ -1,2 +1,3 @@
 pub mod Pages
 pub mod Places
+pub mod Laws

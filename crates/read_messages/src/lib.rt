@@ -17,6 +17,8 @@ ghost use Rattle.fields.specs.Fields.{fieldHead};
 ghost use Rattle.messages.specs.Messages.{insert, pairSize, isKind, isEpoch, isAuthor, isLine, nameFits, nameStands, tuplesIn, namesWithin, afterNames, epochPlace, namesPlace, pairIn, kindIn, restIn, numbersIn, endsAs};
 ghost use Rattle.messages.specs.Calls.{bare, readOutcome, zeros as noNumbers, numbersRead};
 ghost use Rattle.read_messages.specs.FirstPass.{numbersStand, goodNames, allTold, untold as nothingTold, telling};
+use answers::Answer;
+use answers::Refusal;
 use fields::Cursor;
 use fields::FIELD;
 use messages::AUTHOR;
@@ -36,9 +38,6 @@ use messages::SEQUENCE;
 use names::Author;
 use names::LIMIT;
 use names::Name;
-use names::Order;
-use answers::Answer;
-use answers::Refusal;
 use slots::SLOT;
 use slots::TUPLE;
 
@@ -177,16 +176,6 @@ fn numbers_in(message: &[u8], cursor: Cursor, end: Cursor) -> Numbers
 
 // ── the first pass ──
 
-fn is_above(name: Name, before: Name) -> bool
-    ensures { λ r. ⌜ r ≡ isLess (compareRows (rowOf before) (rowOf name)) ⌝ }
-{
-    match names::compare(before, name) {
-        Order::Less => true,
-        Order::Same => false,
-        Order::More => false,
-    }
-}
-
 // Whether the names passed are names and rise, how many they are, and the place after their fields.
 struct Passed {
     good: bool,
@@ -227,7 +216,7 @@ fn pass_names(message: &[u8], cursor: Cursor, most: usize) -> Passed
             };
         }
         let name = name_in(message, here);
-        if !is_above(name, last) {
+        if !names::is_below(last, name) {
             break Passed {
                 good: false,
                 names,

@@ -20,6 +20,7 @@ use Rattle.names.proofs.Validity.{Ordinary, Middle, plain, marker-m, marker-M, 
 use Rattle.numbers.proofs.Bools.{and-0, and-1}
 use Rattle.numbers.specs.Bytes.{Bytes, Octets, at16, at32, signed, unsigned, allZero, bytes16, bytes32}
 use Rattle.slots.specs.Tuples.{tupleAt, tuplesAt, tupleSize, tupleBytes, rowBytes}
+use Rattle.slots.specs.Laws.{Laws}
 use Rattle.slots.specs.Slots.{bytesOver, keepsOver, Slot, headSize, slotSize, depthOf, nameOf, lineOf, slotOf, keepsSlot, slotBytes, isSlot}
 use Rattle.numbers.proofs.ReadNumbers.{fits16, fits32}
 use Rattle.numbers.proofs.Lists.{next-to}
@@ -233,3 +234,12 @@ module _ (x : Slot) (h : isSlot x ≡ true) where
       && true
       && (ap isName name-back ∙ named) i
       && r i
+
+pub laws : Laws
+laws = record {
+  bytes-back = λ s k e. bytes-back s k (kept s e);
+  decoded = λ s k e. decoded-slot s k (kept s e);
+  slot-back = slot-back;
+  encoded = encoded-keeps;
+  long = encoded-length;
+}

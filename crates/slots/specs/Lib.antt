@@ -1,2 +1,3 @@
 pub mod Tuples
 pub mod Slots
+pub mod Laws

@@ -13,6 +13,8 @@ ghost use Rattle.pages.specs.Pages.{maxSlots, namesOf, keepsLayout};
 ghost use Rattle.fields.specs.Fields.{fieldHead, fieldBytes};
 ghost use Rattle.messages.specs.Messages.{insert, kindTag, epochTag, authorTag, kindSize, pairSize, lineSize, pairBytes, nameField, lineFields, messageBytes, namesPlace};
 ghost use Rattle.messages.specs.Calls.{partsGiven, mayWrite, writeOutcome};
+use answers::Answer;
+use answers::Refusal;
 use fields::FIELD;
 use messages::AUTHOR;
 use messages::AUTHOR_TAG;
@@ -30,8 +32,6 @@ use messages::PAIR;
 use messages::SEQUENCE;
 use names::Author;
 use names::Name;
-use answers::Answer;
-use answers::Refusal;
 use slots::SLOT;
 use slots::TUPLE;
 

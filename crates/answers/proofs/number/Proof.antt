@@ -18,7 +18,9 @@ returns : tie.Need-returns
 returns c = search needs
 
 returns-2 : tie.Need-returns-2
-returns-2 c = c .refusal-number .ensures ∙ sym (ap numberOf (c .before .before .a .given .1))
+returns-2 c =
+    let after-a : tie.After-a = search needs in
+    c .refusal-number .ensures ∙ sym (ap numberOf (after-a .a .given .1))
 
 pub number-spec : {M : Type 1} → statement M
 number-spec = tie.close (tie.spec enum-told enum-known-a refusal-number-requires returns returns-2)

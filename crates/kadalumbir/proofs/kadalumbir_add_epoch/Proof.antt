@@ -12,13 +12,18 @@ add-requires : tie.Need-add-requires
 add-requires c κs = search needs
 
 pack-requires : tie.Need-pack-requires
-pack-requires c κs = rw (c .before .before .add .ensures .0) (add-count (now (c .before .before .before .before .before .before .args .table)) (c .before .before .before .before .before .before .args .parent) (record { node = c .before .before .before .before .before .before .args .node; sequence = c .before .before .before .before .before .before .args .sequence }) (length (now (c .before .before .before .before .before .before .args .out))))
+pack-requires c κs =
+    let after-add : tie.After-add = search needs in
+    let start : tie.Start = search needs in
+    rw (after-add .add .ensures .0) (add-count (now (start .args .table)) (start .args .parent) (record { node = start .args .node; sequence = start .args .sequence }) (length (now (start .args .out))))
 
 same-length : tie.Need-same-length
 same-length c = search needs
 
 returns : tie.Need-returns
-returns c = (c .pack .ensures ∙ ap packed (c .before .before .before .add .ensures .0), c .before .before .before .add .ensures .1)
+returns c =
+    let after-add : tie.After-add = search needs in
+    (c .pack .ensures ∙ ap packed (after-add .add .ensures .0), after-add .add .ensures .1)
 
 pub kadalumbir-add-epoch-spec : {M : Type 1} → statement M
 kadalumbir-add-epoch-spec = tie.close (tie.spec add-requires pack-requires same-length returns)

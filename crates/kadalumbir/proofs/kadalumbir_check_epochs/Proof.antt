@@ -11,10 +11,14 @@ check-table-requires : tie.Need-check-table-requires
 check-table-requires c κs = search needs
 
 pack-requires : tie.Need-pack-requires
-pack-requires c κs = rw (c .check-table .ensures) (check-table-count (now (c .before .before .args .table)))
+pack-requires c κs =
+    let start : tie.Start = search needs in
+    rw (c .check-table .ensures) (check-table-count (now (start .args .table)))
 
 returns : tie.Need-returns
-returns c = c .pack .ensures ∙ ap packed (c .before .check-table .ensures)
+returns c =
+    let after-check-table : tie.After-check-table = search needs in
+    c .pack .ensures ∙ ap packed (after-check-table .check-table .ensures)
 
 pub kadalumbir-check-epochs-spec : {M : Type 1} → statement M
 kadalumbir-check-epochs-spec = tie.close (tie.spec check-table-requires pack-requires returns)

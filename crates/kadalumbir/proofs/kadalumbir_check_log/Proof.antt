@@ -11,10 +11,14 @@ check-log-requires : tie.Need-check-log-requires
 check-log-requires c κs = search needs
 
 pack-requires : tie.Need-pack-requires
-pack-requires c κs = rw (c .check-log .ensures) (check-log-count (now (c .before .before .args .log)))
+pack-requires c κs =
+    let start : tie.Start = search needs in
+    rw (c .check-log .ensures) (check-log-count (now (start .args .log)))
 
 returns : tie.Need-returns
-returns c = c .pack .ensures ∙ ap packed (c .before .check-log .ensures)
+returns c =
+    let after-check-log : tie.After-check-log = search needs in
+    c .pack .ensures ∙ ap packed (after-check-log .check-log .ensures)
 
 pub kadalumbir-check-log-spec : {M : Type 1} → statement M
 kadalumbir-check-log-spec = tie.close (tie.spec check-log-requires pack-requires returns)

@@ -11,10 +11,14 @@ check-page-requires : tie.Need-check-page-requires
 check-page-requires c κs = search needs
 
 pack-requires : tie.Need-pack-requires
-pack-requires c κs = rw (c .check-page .ensures) (check-page-count (now (c .before .before .args .page)))
+pack-requires c κs =
+    let start : tie.Start = search needs in
+    rw (c .check-page .ensures) (check-page-count (now (start .args .page)))
 
 returns : tie.Need-returns
-returns c = c .pack .ensures ∙ ap packed (c .before .check-page .ensures)
+returns c =
+    let after-check-page : tie.After-check-page = search needs in
+    c .pack .ensures ∙ ap packed (after-check-page .check-page .ensures)
 
 pub kadalumbir-check-page-spec : {M : Type 1} → statement M
 kadalumbir-check-page-spec = tie.close (tie.spec check-page-requires pack-requires returns)

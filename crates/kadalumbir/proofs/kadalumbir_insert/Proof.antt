@@ -12,13 +12,18 @@ insert-requires : tie.Need-insert-requires
 insert-requires c κs = search needs
 
 pack-requires : tie.Need-pack-requires
-pack-requires c κs = rw (c .before .before .insert .ensures .0) (insert-count (now (c .before .before .before .before .before .before .before .args .page)) (now (c .before .before .before .before .before .before .before .args .slot)) (length (now (c .before .before .before .before .before .before .before .args .out))))
+pack-requires c κs =
+    let after-insert : tie.After-insert = search needs in
+    let start : tie.Start = search needs in
+    rw (after-insert .insert .ensures .0) (insert-count (now (start .args .page)) (now (start .args .slot)) (length (now (start .args .out))))
 
 same-length : tie.Need-same-length
 same-length c = search needs
 
 returns : tie.Need-returns
-returns c = (c .pack .ensures ∙ ap packed (c .before .before .before .insert .ensures .0), c .before .before .before .insert .ensures .1)
+returns c =
+    let after-insert : tie.After-insert = search needs in
+    (c .pack .ensures ∙ ap packed (after-insert .insert .ensures .0), after-insert .insert .ensures .1)
 
 pub kadalumbir-insert-spec : {M : Type 1} → statement M
 kadalumbir-insert-spec = tie.close (tie.spec insert-requires pack-requires same-length returns)

@@ -20,16 +20,22 @@ write-name-requires c κs = search needs
 
 pack-requires : tie.Need-pack-requires
 pack-requires c κs =
-    let e : named (c .before .before .before .before .before .new-name .result .answer) (rowOf (c .before .before .before .before .before .new-name .result .name)) (length (now (c .before .before .before .before .before .before .before .before .args .out))) ≡ named (newNameOutcome (now (c .before .before .before .before .before .before .before .before .args .page)) (c .before .before .before .before .before .before .before .before .args .gap) (record { node = c .before .before .before .before .before .before .before .before .args .node; sequence = c .before .before .before .before .before .before .before .before .args .sequence }) .answer) (newNameOutcome (now (c .before .before .before .before .before .before .before .before .args .page)) (c .before .before .before .before .before .before .before .before .args .gap) (record { node = c .before .before .before .before .before .before .before .before .args .node; sequence = c .before .before .before .before .before .before .before .before .args .sequence }) .name) (length (now (c .before .before .before .before .before .before .before .before .args .out))) = (λ i. named (c .before .before .before .before .before .new-name .ensures .0 i) ((ap rowOf (c .before .before .before .before .before .new-name .ensures .1) ∙ value-row (newNameOutcome (now (c .before .before .before .before .before .before .before .before .args .page)) (c .before .before .before .before .before .before .before .before .args .gap) (record { node = c .before .before .before .before .before .before .before .before .args .node; sequence = c .before .before .before .before .before .before .before .before .args .sequence }) .name)) i) (length (now (c .before .before .before .before .before .before .before .before .args .out)))) in
-    rw (c .before .before .write-name .ensures .0, e) (named-count (newNameOutcome (now (c .before .before .before .before .before .before .before .before .args .page)) (c .before .before .before .before .before .before .before .before .args .gap) (record { node = c .before .before .before .before .before .before .before .before .args .node; sequence = c .before .before .before .before .before .before .before .before .args .sequence }) .answer) (newNameOutcome (now (c .before .before .before .before .before .before .before .before .args .page)) (c .before .before .before .before .before .before .before .before .args .gap) (record { node = c .before .before .before .before .before .before .before .before .args .node; sequence = c .before .before .before .before .before .before .before .before .args .sequence }) .name) (length (now (c .before .before .before .before .before .before .before .before .args .out))) (new-name-count (now (c .before .before .before .before .before .before .before .before .args .page)) (c .before .before .before .before .before .before .before .before .args .gap) (record { node = c .before .before .before .before .before .before .before .before .args .node; sequence = c .before .before .before .before .before .before .before .before .args .sequence })))
+    let after-write-name : tie.After-write-name = search needs in
+    let after-new-name : tie.After-new-name = search needs in
+    let start : tie.Start = search needs in
+    let e : named (after-new-name .new-name .result .answer) (rowOf (after-new-name .new-name .result .name)) (length (now (start .args .out))) ≡ named (newNameOutcome (now (start .args .page)) (start .args .gap) (record { node = start .args .node; sequence = start .args .sequence }) .answer) (newNameOutcome (now (start .args .page)) (start .args .gap) (record { node = start .args .node; sequence = start .args .sequence }) .name) (length (now (start .args .out))) = (λ i. named (after-new-name .new-name .ensures .0 i) ((ap rowOf (after-new-name .new-name .ensures .1) ∙ value-row (newNameOutcome (now (start .args .page)) (start .args .gap) (record { node = start .args .node; sequence = start .args .sequence }) .name)) i) (length (now (start .args .out)))) in
+    rw (after-write-name .write-name .ensures .0, e) (named-count (newNameOutcome (now (start .args .page)) (start .args .gap) (record { node = start .args .node; sequence = start .args .sequence }) .answer) (newNameOutcome (now (start .args .page)) (start .args .gap) (record { node = start .args .node; sequence = start .args .sequence }) .name) (length (now (start .args .out))) (new-name-count (now (start .args .page)) (start .args .gap) (record { node = start .args .node; sequence = start .args .sequence })))
 
 same-length : tie.Need-same-length
 same-length c = search needs
 
 returns : tie.Need-returns
 returns c =
-    let e : named (c .before .before .before .before .before .before .new-name .result .answer) (rowOf (c .before .before .before .before .before .before .new-name .result .name)) (length (now (c .before .before .before .before .before .before .before .before .before .args .out))) ≡ named (newNameOutcome (now (c .before .before .before .before .before .before .before .before .before .args .page)) (c .before .before .before .before .before .before .before .before .before .args .gap) (record { node = c .before .before .before .before .before .before .before .before .before .args .node; sequence = c .before .before .before .before .before .before .before .before .before .args .sequence }) .answer) (newNameOutcome (now (c .before .before .before .before .before .before .before .before .before .args .page)) (c .before .before .before .before .before .before .before .before .before .args .gap) (record { node = c .before .before .before .before .before .before .before .before .before .args .node; sequence = c .before .before .before .before .before .before .before .before .before .args .sequence }) .name) (length (now (c .before .before .before .before .before .before .before .before .before .args .out))) = (λ i. named (c .before .before .before .before .before .before .new-name .ensures .0 i) ((ap rowOf (c .before .before .before .before .before .before .new-name .ensures .1) ∙ value-row (newNameOutcome (now (c .before .before .before .before .before .before .before .before .before .args .page)) (c .before .before .before .before .before .before .before .before .before .args .gap) (record { node = c .before .before .before .before .before .before .before .before .before .args .node; sequence = c .before .before .before .before .before .before .before .before .before .args .sequence }) .name)) i) (length (now (c .before .before .before .before .before .before .before .before .before .args .out)))) in
-    (c .pack .ensures ∙ ap packed (c .before .before .before .write-name .ensures .0 ∙ ap (λ (x : Outcome). x .answer) e), c .before .before .before .write-name .ensures .1 ∙ ap (λ (x : Outcome). leaves x (now (c .before .before .before .before .before .before .before .before .before .args .out))) e)
+    let after-write-name : tie.After-write-name = search needs in
+    let after-new-name : tie.After-new-name = search needs in
+    let start : tie.Start = search needs in
+    let e : named (after-new-name .new-name .result .answer) (rowOf (after-new-name .new-name .result .name)) (length (now (start .args .out))) ≡ named (newNameOutcome (now (start .args .page)) (start .args .gap) (record { node = start .args .node; sequence = start .args .sequence }) .answer) (newNameOutcome (now (start .args .page)) (start .args .gap) (record { node = start .args .node; sequence = start .args .sequence }) .name) (length (now (start .args .out))) = (λ i. named (after-new-name .new-name .ensures .0 i) ((ap rowOf (after-new-name .new-name .ensures .1) ∙ value-row (newNameOutcome (now (start .args .page)) (start .args .gap) (record { node = start .args .node; sequence = start .args .sequence }) .name)) i) (length (now (start .args .out)))) in
+    (c .pack .ensures ∙ ap packed (after-write-name .write-name .ensures .0 ∙ ap (λ (x : Outcome). x .answer) e), after-write-name .write-name .ensures .1 ∙ ap (λ (x : Outcome). leaves x (now (start .args .out))) e)
 
 pub kadalumbir-new-name-spec : {M : Type 1} → statement M
 kadalumbir-new-name-spec =

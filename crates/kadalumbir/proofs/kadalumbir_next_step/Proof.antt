@@ -20,18 +20,27 @@ step-index-requires c κs = search needs
 
 cast-index : tie.Need-cast-index
 cast-index c =
-    let e : c .step-index .result ≡ indexIn (nextStepOutcome (now (c .before .before .before .before .args .table)) (c .before .before .before .before .args .current)) = c .step-index .ensures ∙ ap indexIn (c .before .before .next-step .ensures) in
-    let b = step-index (now (c .before .before .before .before .args .table)) (c .before .before .before .before .args .current) in
+    let after-next-step : tie.After-next-step = search needs in
+    let start : tie.Start = search needs in
+    let e : c .step-index .result ≡ indexIn (nextStepOutcome (now (start .args .table)) (start .args .current)) = c .step-index .ensures ∙ ap indexIn (after-next-step .next-step .ensures) in
+    let b = step-index (now (start .args .table)) (start .args .current) in
     omega arith
 
 answer-requires : tie.Need-answer-requires
 answer-requires c κs = search needs
 
 pack-requires : tie.Need-pack-requires
-pack-requires c κs = rw (c .answer .ensures) (step-count (c .before .before .before .next-step .result))
+pack-requires c κs =
+    let after-next-step : tie.After-next-step = search needs in
+    rw (c .answer .ensures) (step-count (after-next-step .next-step .result))
 
 returns : tie.Need-returns
-returns c = (c .pack .ensures ∙ ap packed (c .before .answer .ensures ∙ ap answerOf (c .before .before .before .before .next-step .ensures)), (c .before .before .before .step-number .ensures ∙ ap numberIn (c .before .before .before .before .next-step .ensures), c .before .before .step-index .ensures ∙ ap indexIn (c .before .before .before .before .next-step .ensures)))
+returns c =
+    let after-answer : tie.After-answer = search needs in
+    let after-step-index : tie.After-step-index = search needs in
+    let after-step-number : tie.After-step-number = search needs in
+    let after-next-step : tie.After-next-step = search needs in
+    (c .pack .ensures ∙ ap packed (after-answer .answer .ensures ∙ ap answerOf (after-next-step .next-step .ensures)), (after-step-number .step-number .ensures ∙ ap numberIn (after-next-step .next-step .ensures), after-step-index .step-index .ensures ∙ ap indexIn (after-next-step .next-step .ensures)))
 
 pub kadalumbir-next-step-spec : {M : Type 1} → statement M
 kadalumbir-next-step-spec =

@@ -12,13 +12,18 @@ remove-requires : tie.Need-remove-requires
 remove-requires c κs = search needs
 
 pack-requires : tie.Need-pack-requires
-pack-requires c κs = rw (c .before .before .remove .ensures .0) (remove-count (now (c .before .before .before .before .before .before .before .args .page)) (now (c .before .before .before .before .before .before .before .args .slot)) (length (now (c .before .before .before .before .before .before .before .args .out))))
+pack-requires c κs =
+    let after-remove : tie.After-remove = search needs in
+    let start : tie.Start = search needs in
+    rw (after-remove .remove .ensures .0) (remove-count (now (start .args .page)) (now (start .args .slot)) (length (now (start .args .out))))
 
 same-length : tie.Need-same-length
 same-length c = search needs
 
 returns : tie.Need-returns
-returns c = (c .pack .ensures ∙ ap packed (c .before .before .before .remove .ensures .0), c .before .before .before .remove .ensures .1)
+returns c =
+    let after-remove : tie.After-remove = search needs in
+    (c .pack .ensures ∙ ap packed (after-remove .remove .ensures .0), after-remove .remove .ensures .1)
 
 pub kadalumbir-remove-spec : {M : Type 1} → statement M
 kadalumbir-remove-spec = tie.close (tie.spec remove-requires pack-requires same-length returns)

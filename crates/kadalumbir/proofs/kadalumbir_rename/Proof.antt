@@ -12,13 +12,18 @@ rename-requires : tie.Need-rename-requires
 rename-requires c κs = search needs
 
 pack-requires : tie.Need-pack-requires
-pack-requires c κs = rw (c .before .before .rename .ensures .0) (rename-count (now (c .before .before .before .before .before .before .before .args .page)) (now (c .before .before .before .before .before .before .before .args .log)) (record { node = c .before .before .before .before .before .before .before .args .node; sequence = c .before .before .before .before .before .before .before .args .sequence }) (length (now (c .before .before .before .before .before .before .before .args .out))))
+pack-requires c κs =
+    let after-rename : tie.After-rename = search needs in
+    let start : tie.Start = search needs in
+    rw (after-rename .rename .ensures .0) (rename-count (now (start .args .page)) (now (start .args .log)) (record { node = start .args .node; sequence = start .args .sequence }) (length (now (start .args .out))))
 
 same-length : tie.Need-same-length
 same-length c = search needs
 
 returns : tie.Need-returns
-returns c = (c .pack .ensures ∙ ap packed (c .before .before .before .rename .ensures .0), c .before .before .before .rename .ensures .1)
+returns c =
+    let after-rename : tie.After-rename = search needs in
+    (c .pack .ensures ∙ ap packed (after-rename .rename .ensures .0), after-rename .rename .ensures .1)
 
 pub kadalumbir-rename-spec : {M : Type 1} → statement M
 kadalumbir-rename-spec = tie.close (tie.spec rename-requires pack-requires same-length returns)

@@ -12,13 +12,18 @@ take-back-requires : tie.Need-take-back-requires
 take-back-requires c κs = search needs
 
 pack-requires : tie.Need-pack-requires
-pack-requires c κs = rw (c .before .before .take-back .ensures .0) (take-back-count (now (c .before .before .before .before .before .before .before .args .page)) (now (c .before .before .before .before .before .before .before .args .log)) (record { node = c .before .before .before .before .before .before .before .args .node; sequence = c .before .before .before .before .before .before .before .args .sequence }) (length (now (c .before .before .before .before .before .before .before .args .out))))
+pack-requires c κs =
+    let after-take-back : tie.After-take-back = search needs in
+    let start : tie.Start = search needs in
+    rw (after-take-back .take-back .ensures .0) (take-back-count (now (start .args .page)) (now (start .args .log)) (record { node = start .args .node; sequence = start .args .sequence }) (length (now (start .args .out))))
 
 same-length : tie.Need-same-length
 same-length c = search needs
 
 returns : tie.Need-returns
-returns c = (c .pack .ensures ∙ ap packed (c .before .before .before .take-back .ensures .0), c .before .before .before .take-back .ensures .1)
+returns c =
+    let after-take-back : tie.After-take-back = search needs in
+    (c .pack .ensures ∙ ap packed (after-take-back .take-back .ensures .0), after-take-back .take-back .ensures .1)
 
 pub kadalumbir-take-back-spec : {M : Type 1} → statement M
 kadalumbir-take-back-spec =

@@ -12,13 +12,18 @@ write-requires : tie.Need-write-requires
 write-requires c κs = search needs
 
 pack-requires : tie.Need-pack-requires
-pack-requires c κs = rw (c .before .before .write .ensures .0) (write-message-count (numbers (c .before .before .before .before .before .before .args .kind) (c .before .before .before .before .before .before .args .epoch-node) (c .before .before .before .before .before .before .args .epoch-sequence) (c .before .before .before .before .before .before .args .author-node) (c .before .before .before .before .before .before .args .author-sequence) (c .before .before .before .before .before .before .args .line)) (now (c .before .before .before .before .before .before .args .names)) (length (now (c .before .before .before .before .before .before .args .out))))
+pack-requires c κs =
+    let after-write : tie.After-write = search needs in
+    let start : tie.Start = search needs in
+    rw (after-write .write .ensures .0) (write-message-count (numbers (start .args .kind) (start .args .epoch-node) (start .args .epoch-sequence) (start .args .author-node) (start .args .author-sequence) (start .args .line)) (now (start .args .names)) (length (now (start .args .out))))
 
 same-length : tie.Need-same-length
 same-length c = search needs
 
 returns : tie.Need-returns
-returns c = (c .pack .ensures ∙ ap packed (c .before .before .before .write .ensures .0), c .before .before .before .write .ensures .1)
+returns c =
+    let after-write : tie.After-write = search needs in
+    (c .pack .ensures ∙ ap packed (after-write .write .ensures .0), after-write .write .ensures .1)
 
 pub kadalumbir-write-message-spec : {M : Type 1} → statement M
 kadalumbir-write-message-spec =

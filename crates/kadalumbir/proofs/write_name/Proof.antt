@@ -23,24 +23,33 @@ enum-known-answer-2 c = search needs
 
 returns : tie.Need-returns
 returns c =
-    let o = now (c .before .before .before .before .before .args .out) in
-    let s : named (Accepted (c .before .before .answer2 .given .0 .0)) (rowOf (c .before .before .before .before .before .args .name)) (length o) ≡ refuse Short = simp (lt-leb slotSize (length o) (c .if1 .taken)) in
-    refused _ _ o (ap (λ (a : Answer). named a (rowOf (c .before .before .before .before .before .args .name)) (length (now (c .before .before .before .before .before .args .out)))) (c .before .before .answer2 .given .1) ∙ s)
+    let after-answer2 : tie.After-answer2 = search needs in
+    let start : tie.Start = search needs in
+    let o = now (start .args .out) in
+    let s : named (Accepted (after-answer2 .answer2 .given .0 .0)) (rowOf (start .args .name)) (length o) ≡ refuse Short = simp (lt-leb slotSize (length o) (c .if1 .taken)) in
+    refused _ _ o (ap (λ (a : Answer). named a (rowOf (start .args .name)) (length (now (start .args .out)))) (after-answer2 .answer2 .given .1) ∙ s)
 
 write-slot-requires : tie.Need-write-slot-requires
 write-slot-requires c κs = search needs
 
 returns-2 : tie.Need-returns-2
-returns-2 c = refused _ _ _ (ap (λ (a : Answer). named a (rowOf (c .before .before .before .before .args .name)) (length (now (c .before .before .before .before .args .out)))) (c .before .answer .given .1))
+returns-2 c =
+    let after-answer : tie.After-answer = search needs in
+    let start : tie.Start = search needs in
+    refused _ _ _ (ap (λ (a : Answer). named a (rowOf (start .args .name)) (length (now (start .args .out)))) (after-answer .answer .given .1))
 
 same-length : tie.Need-same-length
 same-length c = search needs
 
 returns-3 : tie.Need-returns-3
 returns-3 c =
-    let o = now (c .before .before .before .before .before .before .before .before .before .args .out) in
-    let s : named (Accepted (c .before .before .before .before .before .before .answer2 .given .0 .0)) (rowOf (c .before .before .before .before .before .before .before .before .before .args .name)) (length o) ≡ record { answer = Accepted (c .before .before .before .before .before .before .answer2 .given .0 .0); bytes = slotBytes (record { line = 0; name = rowOf (c .before .before .before .before .before .before .before .before .before .args .name) }) } = simp (le-leb slotSize (length o) (c .before .before .before .before .if1 .left)) in
-    accepted _ _ _ o _ (ap (λ (a : Answer). named a (rowOf (c .before .before .before .before .before .before .before .before .before .args .name)) (length (now (c .before .before .before .before .before .before .before .before .before .args .out)))) (c .before .before .before .before .before .before .answer2 .given .1) ∙ s) (c .before .before .write-slot .ensures)
+    let after-write-slot : tie.After-write-slot = search needs in
+    let else1 : tie.Else1 = search needs in
+    let after-answer2 : tie.After-answer2 = search needs in
+    let start : tie.Start = search needs in
+    let o = now (start .args .out) in
+    let s : named (Accepted (after-answer2 .answer2 .given .0 .0)) (rowOf (start .args .name)) (length o) ≡ record { answer = Accepted (after-answer2 .answer2 .given .0 .0); bytes = slotBytes (record { line = 0; name = rowOf (start .args .name) }) } = simp (le-leb slotSize (length o) (else1 .if1 .left)) in
+    accepted _ _ _ o _ (ap (λ (a : Answer). named a (rowOf (start .args .name)) (length (now (start .args .out)))) (after-answer2 .answer2 .given .1) ∙ s) (after-write-slot .write-slot .ensures)
 
 pub write-name-spec : {M : Type 1} → statement M
 write-name-spec =

@@ -12,17 +12,23 @@ use borrow.Author.Needs.{needs}
 use Rattle.listing_text.proofs.magnitude.Statement.{statement}
 use Rattle.listing_text.proofs.magnitude.Tie as tie
 
-at-least : (c : tie.Then1) → (n : ℕ) × (c .before .args .z ≡ pos n) × (n < 2 ^ 31)
+at-least : (c : tie.Then1) →
+    let start : tie.Start = search needs in
+    (n : ℕ) × (start .args .z ≡ pos n) × (n < 2 ^ 31)
 at-least c =
-    let z = c .before .args .z in
-    let f = c .before .fits .z in
+    let start : tie.Start = search needs in
+    let z = start .args .z in
+    let f = start .fits .z in
     let h = high z (rw (toZ-ofZ w32 z f) at (c .if1 .taken)) in
     (h .0, h .1, rw (h .1) at (f .sfits))
 
-below : (c : tie.Else1) → (n : ℕ) × (c .before .args .z ≡ negsuc n) × (toZ w32 (ofZ w32 (c .before .args .z)) ≡ c .before .args .z) × (n < 2 ^ 31)
+below : (c : tie.Else1) →
+    let start : tie.Start = search needs in
+    (n : ℕ) × (start .args .z ≡ negsuc n) × (toZ w32 (ofZ w32 (start .args .z)) ≡ start .args .z) × (n < 2 ^ 31)
 below c =
-    let z = c .before .args .z in
-    let f = c .before .fits .z in
+    let start : tie.Start = search needs in
+    let z = start .args .z in
+    let f = start .fits .z in
     let h = low z (rw (toZ-ofZ w32 z f) at (c .if1 .left)) in
     (h .0, h .1, toZ-ofZ w32 z f, rw (h .1) at (f .sfits))
 

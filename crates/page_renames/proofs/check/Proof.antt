@@ -2,7 +2,7 @@
 use mathlib.Core.Path.{refl, _∙_, sym}
 use borrow.Author.Tests.{le-leb, lt-leb, not-true, not-false}
 use denote.Ref.{now}
-use Rattle.answers.proofs.Refusals.{here, later}
+use Rattle.answers.specs.Laws.{here, later}
 use Rattle.page_renames.specs.Renames.{openingTests}
 use Rattle.page_renames.proofs.FirstRefusal.{stops, clears}
 use borrow.Author.Needs.{needs}

@@ -17,7 +17,7 @@ use Rattle.slots.specs.Slots.{slotSize}
 use Rattle.answers.specs.declared.Refusal.the-variants.{TooDeep, NotRisingBack}
 use Rattle.answers.specs.Answers.{_else_, inOrder}
 use Rattle.pages.specs.Pages.{namesOf}
-use Rattle.answers.proofs.Refusals.{here}
+use Rattle.answers.specs.Laws.{here}
 use Rattle.name_renames.specs.Renaming.{takeBack}
 use Rattle.page_renames.specs.declared.Checked.the-variants.{Refused, Passed}
 use Rattle.page_renames.specs.Renames.{takeBackTests}

@@ -6,7 +6,7 @@ use denote.Ref.{now}
 use Rattle.name_renames.specs.Renaming.{fresh}
 use Rattle.numbers.specs.Lists.{every}
 use Rattle.pages.specs.Pages.{namesOf}
-use Rattle.answers.proofs.Refusals.{here, later}
+use Rattle.answers.specs.Laws.{here, later}
 use Rattle.one_name.proofs.CheckedLog.{logged}
 use Rattle.page_renames.specs.Renames.{renameTests}
 use Rattle.page_renames.proofs.FirstRefusal.{asked, stops, clears}

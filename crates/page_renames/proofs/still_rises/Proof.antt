@@ -15,19 +15,19 @@ returns c =
     let under = isLess (compareRows (rowOf (x .a)) (rowOf (x .b))) in
     ap (λ (b : Bool). b && under) (sym (not-true (x .rises) (c .if1 .taken)))
 
-name-below-requires : tie.Need-name-below-requires
-name-below-requires c κs = search needs
+is-below-requires : tie.Need-is-below-requires
+is-below-requires c κs = search needs
 
 returns-2 : tie.Need-returns-2
 returns-2 c =
     let start : tie.Start = search needs in
     let else1 : tie.Else1 = search needs in
-    simp (not-false (start .args .rises) (else1 .if1 .left)) (c .name-below .ensures)
+    simp (not-false (start .args .rises) (else1 .if1 .left)) (c .is-below .ensures)
 
 pub still-rises-spec : {M : Type 1} → statement M
 still-rises-spec =
     tie.close
     (tie.spec
     returns
-    name-below-requires
+    is-below-requires
     returns-2)

@@ -51,8 +51,8 @@ name-in-requires c κs =
     let e = sym (stood .name-stands .ensures) ∙ not-false (stood .name-stands .result) (else2 .if2 .left) in
     (e, sym (fit .name-fits .ensures) ∙ not-false (fit .name-fits .result) (c .if3 .left))
 
-is-above-requires : tie.Need-is-above-requires Inv-loop μ-loop
-is-above-requires c κs = search needs
+is-below-requires : tie.Need-is-below-requires Inv-loop μ-loop
+is-below-requires c κs = search needs
 
 after-field-requires : tie.Need-after-field-requires Inv-loop μ-loop
 after-field-requires c κs =
@@ -78,7 +78,7 @@ loop-again c =
     let fit : tie.After-name-fits Inv-loop μ-loop = search needs in
     let else3 : tie.Else3 Inv-loop μ-loop = search needs in
     let name : tie.After-name-in Inv-loop μ-loop = search needs in
-    let above : tie.After-is-above Inv-loop μ-loop = search needs in
+    let above : tie.After-is-below Inv-loop μ-loop = search needs in
     let else4 : tie.Else4 Inv-loop μ-loop = search needs in
     let s = now (start .args .message) in
     let p = here .loop .at in
@@ -88,7 +88,7 @@ loop-again c =
     let e = sym (stood .name-stands .ensures) ∙ not-false (stood .name-stands .result) (else2 .if2 .left) in
     let f = sym (fit .name-fits .ensures) ∙ not-false (fit .name-fits .result) (else3 .if3 .left) in
     let less = ap (λ (a : Row). isLess (compareRows (rowOf (here .loop .last)) a)) (sym (name .name-in .ensures)) in
-    let g = less ∙ sym (above .is-above .ensures) ∙ not-false (above .is-above .result) (else4 .if4 .left) in
+    let g = less ∙ sym (above .is-below .ensures) ∙ not-false (above .is-below .result) (else4 .if4 .left) in
     let v = passing-on (here .loop .inv) h e f g in
     let from = start .args .cursor .at in
     let next = p + (fieldHead + sizeIn (drop p s)) in
@@ -135,11 +135,11 @@ returns-4 c =
     let stood : tie.After-name-stands Inv-loop μ-loop = search needs in
     let else2 : tie.Else2 Inv-loop μ-loop = search needs in
     let name : tie.After-name-in Inv-loop μ-loop = search needs in
-    let above : tie.After-is-above Inv-loop μ-loop = search needs in
+    let above : tie.After-is-below Inv-loop μ-loop = search needs in
     let h : here .loop .names < start .args .most = omega arith in
     let e = sym (stood .name-stands .ensures) ∙ not-false (stood .name-stands .result) (else2 .if2 .left) in
     let less = ap (λ (a : Row). isLess (compareRows (rowOf (here .loop .last)) a)) (sym (name .name-in .ensures)) in
-    let g = less ∙ sym (above .is-above .ensures) ∙ not-true (above .is-above .result) (c .if4 .taken) in
+    let g = less ∙ sym (above .is-below .ensures) ∙ not-true (above .is-below .result) (c .if4 .taken) in
     (passing-falls (here .loop .inv) h e g, λ q. yes-no q refl)
 
 pub pass-names-spec : {M : Type 1} → statement M
@@ -153,7 +153,7 @@ pass-names-spec =
     name-stands-requires
     name-fits-requires
     name-in-requires
-    is-above-requires
+    is-below-requires
     after-field-requires
     add-names
     loop-less
