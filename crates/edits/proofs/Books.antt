@@ -31,7 +31,8 @@ use Rattle.answers.specs.Laws.{Passed}
 use Rattle.answers.proofs.Refusals.{accepted-passes}
 use Rattle.pages.proofs.RoundTrip.{laid, slots-back, page-slots, written-page}
 use Rattle.edits.specs.Edits.{placed, without, editTests, insertOutcome, removeOutcome}
-use Rattle.edits.specs.Laws.{IsPage, givesBack, InsertLaw, RemoveLaw}
+use Rattle.edits.specs.Laws.{givesBack, InsertLaw, RemoveLaw}
+use Rattle.pages.specs.Laws.{IsPage}
 use Rattle.edits.proofs.Placed.{Over, over-none, over-more, rising-over, placed-over, without-over}
 
 -- ── lists of slots ──

@@ -8,13 +8,10 @@ use lib.ListN.{length}
 use Rattle.numbers.specs.Bytes.{Bytes, Octets}
 use Rattle.slots.specs.Slots.{nameOf, slotOf}
 use Rattle.answers.specs.Answers.{Outcome}
-use Rattle.pages.specs.Pages.{slotsOf, keepsLayout, rises}
+use Rattle.pages.specs.Pages.{slotsOf}
+use Rattle.pages.specs.Laws.{IsPage}
 use Rattle.answers.specs.declared.Answer.the-variants.{Accepted}
 use Rattle.edits.specs.Edits.{placed, without, insertOutcome, removeOutcome}
-
--- 01's page: it keeps its layout, and its names rise strictly
-abbrev pub IsPage : Bytes → Type 0
-IsPage s = (keepsLayout s ≡ true) × (rises s ≡ true)
 
 -- the outcome that gives a page back: its bytes, and as many slots as it has
 abbrev pub givesBack : Bytes → Outcome

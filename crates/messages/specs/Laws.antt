@@ -36,7 +36,7 @@ pub record InverseLaws : Type 0 where
   pub one-writing : (s t : Bytes) → Octets s → Octets t → keepsMessage s ≡ true → keepsMessage t ≡ true
       → partsIn s ≡ partsIn t → s ≡ t
 
--- "The longest is 25,366 bytes." The number is that of today's limit of tuples; `longest` moves with the limit.
+-- "The longest is 25,366 bytes." The number is that of a limit of eight tuples.
 pub record LongestLaws : Type 0 where
   pub longest-is : longest ≡ 25366
   -- no message is longer

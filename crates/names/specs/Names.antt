@@ -70,7 +70,7 @@ valueOf a = record { depth = length a; tuples = a ++ replicate (limit - length a
 abbrev pub fitted : Row → Row
 fitted a = cond (fits a) a []
 
--- "a·b means the tuples of a, then those of b": where they are more than `limit` there is no name
+-- a·b, which is `a ++ b`, as a name by value: of more than `limit` tuples there is none, and the row is empty
 abbrev pub joined : Row → Row → Row
 joined a b = fitted (a ++ b)
 

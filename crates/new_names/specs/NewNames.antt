@@ -51,7 +51,8 @@ module _ (author : Author) where
       (cond (eqb (y .position) 1)
       (cond (nonNeg (y .offset)) (some (a ++ (lowered y ∷ own author 32768 ∷ []))) none) none)
 
-  -- "2. Else if a is missing or a proper prefix of b .. 3. Else a·(32768, node, sequence, 0)."
+  -- "2. Else if a is missing or a proper prefix of b .. 3. Else a·(32768, node, sequence, 0)." (That b is a itself is not met in a
+  -- page, whose names rise.)
   unfoldable pub closeBy : Row → Option Row → Option Row
   closeBy a (some (y ∷ u)) = beforeTuple a y
   closeBy a (some []) = some (a ++ (own author 32768 ∷ []))

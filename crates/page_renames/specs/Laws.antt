@@ -1,5 +1,5 @@
 -- What an accepted rename and an accepted taking back have written: document 01, "Renaming one name" and "Taking it back", over whole pages.
--- proofs/Books.antt has one inhabitant, `laws`.
+-- proofs/Books.antt has that all of it holds (`laws`).
 use Prim.Native.Nat.{ℕ, _≤_}
 use mathlib.Core.Path.{_≡_}
 use mathlib.Core.Bool.{true}
@@ -7,7 +7,8 @@ use lib.ListN.{length}
 use Rattle.names.specs.declared.Author.{Author}
 use Rattle.name_renames.specs.Renaming.{rename, takeBack}
 use Rattle.numbers.specs.Bytes.{Bytes, Octets}
-use Rattle.pages.specs.Pages.{slotsOf, namesOf, keepsLayout, rises}
+use Rattle.pages.specs.Pages.{slotsOf, namesOf}
+use Rattle.pages.specs.Laws.{IsPage}
 use Rattle.answers.specs.declared.Answer.the-variants.{Accepted}
 use Rattle.page_renames.specs.Renames.{carried, renameOutcome, takeBackOutcome}
 
@@ -16,10 +17,6 @@ pub record Given (page : Bytes) (author : Author) : Type 0 where
   pub octets : Octets page
   pub node-max : author .node ≤ 65535
   pub sequence-max : author .sequence ≤ 4294967295
-
--- "A page is 0..256 slots with strictly rising names"
-abbrev pub IsPage : Bytes → Type 0
-IsPage page = (keepsLayout page ≡ true) × (rises page ≡ true)
 
 pub record Laws : Type 0 where
   -- "For fresh names the order is kept strictly, markers or not": an accepted rename writes a page

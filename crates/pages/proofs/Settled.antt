@@ -10,7 +10,6 @@ use Rattle.pages.proofs.page_rises.Reads as page-rises
 use Rattle.pages.proofs.log_ok.Reads as log-ok
 use Rattle.pages.proofs.check_page.Reads as check-page
 use Rattle.pages.proofs.check_log.Reads as check-log
-use Rattle.pages.proofs.check_slot.Reads as check-slot
 use Rattle.pages.proofs.find.Reads as find
 use Rattle.pages.proofs.name_of.Reads as name-of
 
@@ -31,9 +30,6 @@ check-page-settled κs a r s r' s' p q = one p q
 
 pub check-log-settled : (κs : _) (a : _) (r : _) (s : _) (r' : _) (s' : _) → check-log.Learnt κs a r s → check-log.Learnt κs a r' s' → r ≡ r'
 check-log-settled κs a r s r' s' p q = one p q
-
-pub check-slot-settled : (κs : _) (a : _) (r : _) (s : _) (r' : _) (s' : _) → check-slot.Learnt κs a r s → check-slot.Learnt κs a r' s' → r ≡ r'
-check-slot-settled κs a r s r' s' p q = one p q
 
 pub find-settled : (κs : _) (a : _) (r : _) (s : _) (r' : _) (s' : _) → find.Learnt κs a r s → find.Learnt κs a r' s' → r ≡ r'
 find-settled κs a r s r' s' p q = one p q

@@ -8,7 +8,7 @@ use Rattle.names.specs.Ordering.{Row, rising}
 use Rattle.numbers.specs.Lists.{every, firstParts, equalParts}
 use Rattle.numbers.specs.Bytes.{Bytes, isZero}
 use Rattle.names.specs.Names.{limit}
-use Rattle.slots.specs.Slots.{sizeOver, keepsOver, Slot, slotSize, slotOf, keepsSlot, slotBytes}
+use Rattle.slots.specs.Slots.{sizeOver, keepsOver, Slot, slotSize, slotOf, slotBytes}
 use Rattle.answers.specs.Answers.{_else_, check}
 use Rattle.answers.specs.declared.Answer.{Answer}
 use Rattle.answers.specs.declared.Refusal.the-variants.{BadLayout, NotRising, BadLog}
@@ -76,7 +76,3 @@ checkPage s = check (keepsLayout s else BadLayout ∷ rises s else NotRising ∷
 -- "3: log breaks its layout, is empty, not rising, or has a line number other than 0"
 unfoldable pub checkLog : Bytes → Answer
 checkLog s = check (isLog s else BadLog ∷ []) (length (slotsOf s))
-
--- a slot that is given by itself
-unfoldable pub checkSlot : Bytes → Answer
-checkSlot s = check (keepsSlot s else BadLayout ∷ []) 1

@@ -9,7 +9,7 @@ ghost use Rattle.names.specs.Names.{rowOf};
 ghost use Rattle.numbers.specs.Lists.{every};
 ghost use Rattle.numbers.specs.Bytes.{put};
 ghost use Rattle.slots.specs.Slots.{slotSize, nameOf, keepsSlot};
-ghost use Rattle.pages.specs.Pages.{partsOf, slotsOf, namesOf, rises, lineIsZero, keepsLayout, isLog, checkPage, checkLog, checkSlot};
+ghost use Rattle.pages.specs.Pages.{partsOf, slotsOf, namesOf, rises, lineIsZero, keepsLayout, isLog, checkPage, checkLog};
 ghost use Rattle.pages.specs.Places.{placeOf};
 use answers::Answer;
 use answers::Refusal;
@@ -138,16 +138,6 @@ pub fn check_log(log: &[u8]) -> Answer
         return Answer::Refused(Refusal::BadLog);
     }
     Answer::Accepted(log.len() / SLOT)
-}
-
-// 1; else one slot.
-pub fn check_slot(slot: &[u8]) -> Answer
-    ensures { λ r. ⌜ r ≡ checkSlot (now (slot .entry)) ⌝ }
-{
-    if !slot_ok(slot) {
-        return Answer::Refused(Refusal::BadLayout);
-    }
-    Answer::Accepted(1)
 }
 
 // The name of slot k, or none beyond the page.
