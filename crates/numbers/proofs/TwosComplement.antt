@@ -7,7 +7,7 @@ use native.Mathlib.Decide.{decLt}
 use borrow.Author.Tests.{le-ltb}
 use lib.Dec.{leb·zero}
 use lib.IntN.{ℤ, pos, negsuc, _-ℤ_}
-use lib.Signed.{leZ}
+use lib.Signed.{leZ, mag}
 use Rattle.numbers.specs.Bytes.{signed, unsigned}
 use Rattle.numbers.proofs.ReadNumbers.{signed-pos, signed-neg}
 
@@ -46,3 +46,11 @@ signed-unsigned (low {n} h) =
     let k : 2147483648 ≤ 4294967295 - n = omega arith in
     let e : 4294967295 - (4294967295 - n) ≡ n = omega arith in
     signed-neg (4294967295 - n) k ∙ ap negsuc e
+
+pub is-word : (z : ℤ) → mag z < 2147483648 → Word z
+is-word (pos n) h = high {n = n} h
+is-word (negsuc n) h = low {n = n} h
+
+pub unsigned-fits : {z : ℤ} → Word z → unsigned z < 4294967296
+unsigned-fits (high h) = omega arith
+unsigned-fits (low h) = omega arith

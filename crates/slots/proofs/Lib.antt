@@ -1,5 +1,6 @@
 pub mod TuplesInBytes
 pub mod TupleTests
+pub mod PackedTuples
 pub mod ZeroTuples
 pub mod NameTests
 pub mod WrittenSlots

@@ -6,7 +6,7 @@ ghost use Prim.Native.Nat.{_+_, _*_, _/_, _%_, _≤_, _<_, min};
 ghost use mathlib.Core.List.{[], _∷_};
 ghost use lib.ListN.{length, take, drop, getD, replicate};
 ghost use lib.IntN.{pos, negsuc};
-ghost use Rattle.names.specs.Ordering.{compareRows};
+ghost use Rattle.names.specs.Ordering.{compareℕ, then, compareTuples, compareRows};
 ghost use Rattle.names.specs.Names.{limit, rowOf, ordinary, ordinaryFrom, marker, isName, withinℤ};
 ghost use Rattle.numbers.specs.Bytes.{at16, at32, at64, signed, unsigned, allZero, bytes32, put};
 ghost use Rattle.slots.specs.Tuples.{tupleAt, tuplesAt, tupleSize, tupleBytes, rowBytes};
@@ -104,12 +104,111 @@ pub fn read_name(s: &[u8]) -> Name
     read_row(s, HEAD, depth(s))
 }
 
-// The names of two slots compared. Everything that compares slots goes through here.
+// Position, node and sequence of a tuple as one number, as its first eight bytes are: these compare as that number does.
+fn front(t: Tuple) -> u64
+    ensures { λ r. ⌜ r ≡ (t .position * 65536 + t .node) * 4294967296 + t .sequence ⌝ }
+{
+    ((t.position as u64) * 65536 + (t.node as u64)) * 4294967296 + (t.sequence as u64)
+}
+
+// An offset's bits, raised by 2^31: offsets, "signed", compare as these numbers do.
+fn raised(o: u32) -> u32
+    ensures { λ r. ⌜ r ≡ (o + 2147483648) % 4294967296 ⌝ }
+{
+    std::num::wrapping_add_u32(o, NEGATIVE)
+}
+
+// Two tuples, each by its first eight bytes and its offset raised.
+fn compare_parts(x: u64, u: u32, y: u64, v: u32) -> Order
+    ensures { λ r. ⌜ r ≡ then (compareℕ x y) (compareℕ u v) ⌝ }
+{
+    if x < y {
+        return Order::Less;
+    }
+    if y < x {
+        return Order::More;
+    }
+    names::compare_numbers(u, v)
+}
+
+// The tuples that stand at p and at q.
+fn compare_tuples(a: &[u8], p: usize, b: &[u8], q: usize) -> Order
+    requires { ⌜ (p + tupleSize ≤ length (now a)) × (q + tupleSize ≤ length (now b)) ⌝ }
+    ensures { λ r. ⌜ r ≡ compareTuples (tupleAt (now (a .entry)) p) (tupleAt (now (b .entry)) q) ⌝ }
+{
+    compare_parts(
+        numbers::read_u64(a, p),
+        raised(numbers::read_u32(a, p + OFFSET)),
+        numbers::read_u64(b, q),
+        raised(numbers::read_u32(b, q + OFFSET)),
+    )
+}
+
+// The tuple that stands at p, compared with t.
+pub fn compare_tuple(a: &[u8], p: usize, t: Tuple) -> Order
+    requires { ⌜ p + tupleSize ≤ length (now a) ⌝ }
+    ensures { λ r. ⌜ r ≡ compareTuples (tupleAt (now (a .entry)) p) t ⌝ }
+{
+    compare_parts(
+        numbers::read_u64(a, p),
+        raised(numbers::read_u32(a, p + OFFSET)),
+        front(t),
+        raised(numbers::to_unsigned(t.offset)),
+    )
+}
+
+// "Names compare at the first tuple that differs; a proper prefix is smaller": the n tuples from p on in a with the m from q on in b, where
+// they stand. Everything that compares names in bytes goes through here.
+pub fn compare_rows(a: &[u8], p: usize, n: usize, b: &[u8], q: usize, m: usize) -> Order
+    requires { ⌜ (p + tupleSize * n ≤ length (now a)) × (q + tupleSize * m ≤ length (now b)) ⌝ }
+    ensures { λ r. ⌜ r ≡ compareRows (tuplesAt (now (a .entry)) p n) (tuplesAt (now (b .entry)) q m) ⌝ }
+{
+    let mut i: usize = 0;
+    loop {
+        if n <= i {
+            if m <= i {
+                break Order::Same;
+            }
+            break Order::Less;
+        }
+        if m <= i {
+            break Order::More;
+        }
+        match compare_tuples(a, p + TUPLE * i, b, q + TUPLE * i) {
+            Order::Less => break Order::Less,
+            Order::More => break Order::More,
+            Order::Same => {}
+        }
+        i += 1;
+    }
+}
+
+// The n tuples from p on, compared with the name of one tuple.
+pub fn compare_to_one(a: &[u8], p: usize, n: usize, t: Tuple) -> Order
+    requires { ⌜ p + tupleSize * n ≤ length (now a) ⌝ }
+    ensures { λ r. ⌜ r ≡ compareRows (tuplesAt (now (a .entry)) p n) (t ∷ []) ⌝ }
+{
+    if n < 1 {
+        return Order::Less;
+    }
+    match compare_tuple(a, p, t) {
+        Order::Less => Order::Less,
+        Order::Same => {
+            if n < 2 {
+                return Order::Same;
+            }
+            Order::More
+        }
+        Order::More => Order::More,
+    }
+}
+
+// The names of two slots compared.
 pub fn compare_slots(a: &[u8], b: &[u8]) -> Order
     requires { ⌜ (length (now a) ≡ slotSize) × (length (now b) ≡ slotSize) ⌝ }
     ensures { λ r. ⌜ r ≡ compareRows (nameOf (now (a .entry))) (nameOf (now (b .entry))) ⌝ }
 {
-    names::compare(read_name(a), read_name(b))
+    compare_rows(a, HEAD, depth(a), b, HEAD, depth(b))
 }
 
 // Offsets -1..2147483646, by their bits: raised by one, with -1 at 0, they end at M's offset.

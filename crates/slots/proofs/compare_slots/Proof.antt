@@ -1,25 +1,30 @@
 -- `slots::compare_slots` meets its contract. Assumes nothing.
 use mathlib.Core.Path.{_∙_}
+use denote.Ref.{now}
 use Rattle.names.specs.Ordering.{compareRows}
+use Rattle.slots.proofs.NameTests.{name-is}
 use borrow.Author.Needs.{needs}
 use Rattle.slots.proofs.compare_slots.Statement.{statement}
 use Rattle.slots.proofs.compare_slots.Tie as tie
 
-read-name-requires : tie.Need-read-name-requires
-read-name-requires c κs = search needs
+depth-requires : tie.Need-depth-requires
+depth-requires c κs = search needs
 
-read-name-requires-2 : tie.Need-read-name-requires-2
-read-name-requires-2 c κs = search needs
+depth-requires-2 : tie.Need-depth-requires-2
+depth-requires-2 c κs = search needs
 
-compare-requires : tie.Need-compare-requires
-compare-requires c κs = search needs
+compare-rows-requires : tie.Need-compare-rows-requires
+compare-rows-requires c κs = search needs
 
 returns : tie.Need-returns
 returns c =
-    let after-read-name2 : tie.After-read-name2 = search needs in
-    let after-read-name : tie.After-read-name = search needs in
-    c .compare .ensures ∙ (λ i. compareRows (after-read-name .read-name .ensures i) (after-read-name2 .read-name2 .ensures i))
+    let after-depth2 : tie.After-depth2 = search needs in
+    let after-depth : tie.After-depth = search needs in
+    let start : tie.Start = search needs in
+    let first = name-is (now (start .args .a)) (after-depth .depth .result) (after-depth .depth .ensures) in
+    let second = name-is (now (start .args .b)) (after-depth2 .depth2 .result) (after-depth2 .depth2 .ensures) in
+    c .compare-rows .ensures ∙ (λ i. compareRows (first i) (second i))
 
 pub compare-slots-spec : {M : Type 1} → statement M
 compare-slots-spec =
-    tie.close (tie.spec read-name-requires read-name-requires-2 compare-requires returns)
+    tie.close (tie.spec depth-requires depth-requires-2 compare-rows-requires returns)

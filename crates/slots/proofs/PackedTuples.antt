@@ -1,0 +1,176 @@
+-- Tuples compared in two pieces: position, node and sequence as one number, and the offset raised by 2³¹ (`packed`); so of tuples that
+-- stand in bytes (`both-at`, `one-at`). What is left of a comparison of rows in bytes (`left-from` and the laws after it). Assumes nothing.
+use mathlib.Core.Path.{_≡_, refl, _∙_, sym, ap}
+use mathlib.Core.Logic.{inl, inr}
+use mathlib.Core.List.{[], _∷_}
+use Prim.Native.Nat.{ℕ, _+_, _*_, _-_, _%_, _<_, _≤_}
+use native.Mathlib.Decide.{decLt}
+use native.Mathlib.Omega.{arith}
+use lib.IntN.{pos, negsuc}
+use lib.ListN.{length, take, drop, getD}
+use lib.Seq.{take-all}
+use Rattle.names.specs.declared.Tuple.{Tuple}
+use Rattle.names.specs.declared.Order.{Order}
+use Rattle.names.specs.declared.Order.the-variants.{Less, Same, More}
+use Rattle.names.specs.Ordering.{Row, compareℕ, compareℤ, then, compareTuples, compareRows}
+use Rattle.names.specs.Names.{m}
+use Rattle.names.proofs.Laws.{ℕ-less, ℕ-same, ℕ-more, ℕ-cases}
+use Rattle.names.proofs.CompareTuples.{left, left-same as both-ended, left-less as first-ended, left-more as second-ended, left-at as turn, to-one}
+use Rattle.numbers.specs.Bytes.{Bytes, Octets, at16, at32, at64, signed, unsigned}
+use Rattle.numbers.proofs.ReadNumbers.{fits16, fits32, signed-pos, signed-neg}
+use Rattle.numbers.proofs.TwosComplement.{Word, signed-unsigned, unsigned-fits}
+use Rattle.slots.specs.Tuples.{tupleAt, tuplesAt, tupleSize}
+use Rattle.slots.proofs.TuplesInBytes.{length-tuplesAt, getD-tuplesAt}
+
+-- position, node and sequence as one number
+abbrev pub front : Tuple → ℕ
+front t = (t .position * 65536 + t .node) * 4294967296 + t .sequence
+
+-- the bits of an offset, raised
+abbrev pub raised : ℕ → ℕ
+raised o = (o + 2147483648) % 4294967296
+
+-- ── numbers whose high parts decide first ──
+
+-- two pairs of numbers that lie the same way
+compare-by : (x y b d : ℕ) → (b < d → x < y) → (b ≡ d → x ≡ y) → (d < b → y < x) → compareℕ x y ≡ compareℕ b d
+compare-by x y b d l s g = elim (ℕ-cases b d) [
+  | inl h ↦ ℕ-less x y (l h) ∙ sym (ℕ-less b d h)
+  | inr r ↦ elim r [ inl h ↦ ℕ-same x y (s h) ∙ sym (ℕ-same b d h) | inr h ↦ ℕ-more x y (g h) ∙ sym (ℕ-more b d h) ]
+]
+
+high-first : (x y a c : ℕ) (o : Order) → (a < c → x < y) → (a ≡ c → compareℕ x y ≡ o) → (c < a → y < x) → compareℕ x y ≡ then (compareℕ a c) o
+high-first x y a c o l s g = elim (ℕ-cases a c) [
+  | inl h ↦ ℕ-less x y (l h) ∙ sym (ap (λ (w : Order). then w o) (ℕ-less a c h))
+  | inr r ↦ elim r [
+    | inl h ↦ s h ∙ sym (ap (λ (w : Order). then w o) (ℕ-same a c h))
+    | inr h ↦ ℕ-more x y (g h) ∙ sym (ap (λ (w : Order). then w o) (ℕ-more a c h))
+  ]
+]
+
+joined16 : (a b c d : ℕ) → b < 65536 → d < 65536 → compareℕ (a * 65536 + b) (c * 65536 + d) ≡ then (compareℕ a c) (compareℕ b d)
+joined16 a b c d p q =
+    high-first (a * 65536 + b) (c * 65536 + d) a c (compareℕ b d) (λ h. omega arith)
+    (λ h. compare-by (a * 65536 + b) (c * 65536 + d) b d (λ k. omega arith) (λ k. omega arith) (λ k. omega arith))
+    (λ h. omega arith)
+
+joined32 : (a b c d : ℕ) → b < 4294967296 → d < 4294967296 → compareℕ (a * 4294967296 + b) (c * 4294967296 + d) ≡ then (compareℕ a c) (compareℕ b d)
+joined32 a b c d p q =
+    high-first (a * 4294967296 + b) (c * 4294967296 + d) a c (compareℕ b d) (λ h. omega arith)
+    (λ h. compare-by (a * 4294967296 + b) (c * 4294967296 + d) b d (λ k. omega arith) (λ k. omega arith) (λ k. omega arith))
+    (λ h. omega arith)
+
+-- ── offsets raised ──
+
+raised-pos : (a : ℕ) → a < 2147483648 → raised a ≡ a + 2147483648
+raised-pos a h = omega arith
+
+raised-neg : (a : ℕ) → 2147483648 ≤ a → a < 4294967296 → raised a ≡ a - 2147483648
+raised-neg a h k = omega arith
+
+-- raised numbers compare as the signed ones do
+signed-by : (a b : ℕ) → a < 4294967296 → b < 4294967296 → compareℤ (signed a) (signed b) ≡ compareℕ (raised a) (raised b)
+signed-by a b p q = elim (decLt a 2147483648) [
+  | yes h ↦ let ra = raised-pos a h in elim (decLt b 2147483648) [
+    | yes k ↦
+        let rb = raised-pos b k in
+        (λ i. compareℤ (signed-pos a h i) (signed-pos b k i)) ∙ sym (compare-by (raised a) (raised b) a b (λ g. omega arith) (λ g. omega arith) (λ g. omega arith))
+    | no k ↦
+        let k' : 2147483648 ≤ b = omega arith in
+        let rb = raised-neg b k' q in
+        (λ i. compareℤ (signed-pos a h i) (signed-neg b k' i)) ∙ sym (ℕ-more (raised a) (raised b) (omega arith))
+  ]
+  | no h ↦ let h' : 2147483648 ≤ a = omega arith in let ra = raised-neg a h' p in elim (decLt b 2147483648) [
+    | yes k ↦
+        let rb = raised-pos b k in
+        (λ i. compareℤ (signed-neg a h' i) (signed-pos b k i)) ∙ sym (ℕ-less (raised a) (raised b) (omega arith))
+    | no k ↦
+        let k' : 2147483648 ≤ b = omega arith in
+        let rb = raised-neg b k' q in
+        (λ i. compareℤ (signed-neg a h' i) (signed-neg b k' i))
+        ∙ sym (compare-by (raised a) (raised b) (4294967295 - b) (4294967295 - a) (λ g. omega arith) (λ g. omega arith) (λ g. omega arith))
+  ]
+]
+
+-- ── tuples ──
+
+then-then : (a b c : Order) → then (then a b) c ≡ then a (then b c)
+then-then Less b c = refl
+then-then Same b c = refl
+then-then More b c = refl
+
+-- a tuple as the code has it, o the bits of its offset
+pub record Held (t : Tuple) (o : ℕ) : Type 0 where
+  pub node : t .node < 65536
+  pub sequence : t .sequence < 4294967296
+  pub bits : o < 4294967296
+  pub offset : t .offset ≡ signed o
+
+pub packed : (s t : Tuple) (o o' : ℕ) → Held s o → Held t o' → then (compareℕ (front s) (front t)) (compareℕ (raised o) (raised o')) ≡ compareTuples s t
+unfolding compareTuples
+packed s t o o' h k =
+    let P = compareℕ (s .position) (t .position) in
+    let N = compareℕ (s .node) (t .node) in
+    let Q = compareℕ (s .sequence) (t .sequence) in
+    let R = compareℕ (raised o) (raised o') in
+    let z : compareℤ (s .offset) (t .offset) ≡ R = (λ i. compareℤ (h .offset i) (k .offset i)) ∙ signed-by o o' (h .bits) (k .bits) in
+    sym
+    ((λ i. then P (then N (then Q (z i))))
+    ∙ sym (then-then P N (then Q R))
+    ∙ sym (then-then (then P N) Q R)
+    ∙ (λ i. then (then (sym (joined16 (s .position) (s .node) (t .position) (t .node) (h .node) (k .node)) i) Q) R)
+    ∙ (λ i. then (sym (joined32 (s .position * 65536 + s .node) (s .sequence) (t .position * 65536 + t .node) (t .sequence) (h .sequence) (k .sequence)) i) R))
+
+pub held-at : (s : Bytes) (p : ℕ) → Octets s → Held (tupleAt s p) (at32 s (p + 8))
+unfolding tupleAt
+held-at s p k = record { node = fits16 s (p + 2) k; sequence = fits32 s (p + 4) k; bits = fits32 s (p + 8) k; offset = refl }
+
+pub held-by : (t : Tuple) → t .node < 65536 → t .sequence < 4294967296 → Word (t .offset) → Held t (unsigned (t .offset))
+held-by t n q w = record { node = n; sequence = q; bits = unsigned-fits w; offset = sym (signed-unsigned w) }
+
+pub front-at : (s : Bytes) (p : ℕ) → front (tupleAt s p) ≡ at64 s p
+unfolding tupleAt
+front-at s p = refl
+
+-- ── rows where they stand ──
+
+-- of the n tuples from p on in a and the k from q on in b, those from number i on
+abbrev pub left-from : Bytes → ℕ → ℕ → Bytes → ℕ → ℕ → ℕ → Order
+left-from a p n b q k i = left (tuplesAt a p n) (tuplesAt b q k) n k i
+
+module _ (a : Bytes) (p n : ℕ) (b : Bytes) (q k : ℕ) where
+  long : n ≤ length (tuplesAt a p n)
+  long = omega (arith, length-tuplesAt a p n)
+
+  long' : k ≤ length (tuplesAt b q k)
+  long' = omega (arith, length-tuplesAt b q k)
+
+  pub left-all : left-from a p n b q k 0 ≡ compareRows (tuplesAt a p n) (tuplesAt b q k)
+  left-all = λ i. compareRows (take-all n (tuplesAt a p n) (omega (arith, length-tuplesAt a p n)) i) (take-all k (tuplesAt b q k) (omega (arith, length-tuplesAt b q k)) i)
+
+  pub left-same : (i : ℕ) → n ≤ i → k ≤ i → Same ≡ left-from a p n b q k i
+  left-same i h g = both-ended (tuplesAt a p n) (tuplesAt b q k) n k i m long long' h g
+
+  pub left-less : (i : ℕ) → n ≤ i → i < k → Less ≡ left-from a p n b q k i
+  left-less i h g = first-ended (tuplesAt a p n) (tuplesAt b q k) n k i m long long' h g
+
+  pub left-more : (i : ℕ) → i < n → k ≤ i → More ≡ left-from a p n b q k i
+  left-more i h g = second-ended (tuplesAt a p n) (tuplesAt b q k) n k i m long long' h g
+
+  -- at a turn: the tuples at i compare as o
+  pub left-at : (i : ℕ) {o r : Order} → r ≡ compareTuples (tupleAt a (p + tupleSize * i)) (tupleAt b (q + tupleSize * i)) → r ≡ o → i < n → i < k →
+      then o (left-from a p n b q k (i + 1)) ≡ left-from a p n b q k i
+  left-at i e f h g =
+      let s : compareTuples (tupleAt a (p + tupleSize * i)) (tupleAt b (q + tupleSize * i)) ≡ compareTuples (getD (tuplesAt a p n) i m) (getD (tuplesAt b q k) i m) =
+      λ j. compareTuples (sym (getD-tuplesAt a p n i h) j) (sym (getD-tuplesAt b q k i g) j) in
+      turn (tuplesAt a p n) (tuplesAt b q k) n k i m long long' (sym f ∙ e ∙ s) h g
+
+-- ── a row and one tuple ──
+
+-- the first tuple compares with t as o
+pub first-tuple : (a : Bytes) (p n : ℕ) (t : Tuple) {o r : Order} → 1 ≤ n → r ≡ compareTuples (tupleAt a p) t → r ≡ o →
+    then o (compareRows (drop 1 (tuplesAt a p n)) []) ≡ compareRows (tuplesAt a p n) (t ∷ [])
+first-tuple a p n t h e f =
+    let z : p + tupleSize * 0 ≡ p = omega arith in
+    let g : getD (tuplesAt a p n) 0 m ≡ tupleAt a p = getD-tuplesAt a p n 0 h ∙ ap (tupleAt a) z in
+    to-one (tuplesAt a p n) t m (sym f ∙ e ∙ ap (λ (s : Tuple). compareTuples s t) (sym g)) (omega (arith, length-tuplesAt a p n))
