@@ -13,7 +13,7 @@ use lib.ListN.{length, take, drop, getD, length-append, length-take, length-drop
 use lib.Seq.{getD-take, take-at, drop-at, ext-getD}
 use Rattle.numbers.proofs.Bools.{and-0, and-1}
 use Rattle.numbers.specs.Bytes.{Bytes, Octets, at16}
-use Rattle.numbers.proofs.ReadNumbers.{two-on, four-on}
+use Rattle.numbers.proofs.ReadNumbers.{two-on, four-on, two-within, four-within}
 use Rattle.numbers.proofs.Octets.{octets-take, octets-drop}
 use Rattle.numbers.proofs.Lists.{flat, flat-none, flat-append}
 use Rattle.numbers.proofs.Parts.{length-parts}
@@ -108,10 +108,7 @@ entry-on : (n : ℕ) (s : Bytes) (p q : ℕ) → q ≡ n + p → entryIn (drop n
 entry-on n s p q e = entry-≡ (two-on n s p q e) (four-on n s (p + 2) (q + 2) (omega arith)) (two-on n s (p + 6) (q + 6) (omega arith))
 
 entry-taken : (s : Bytes) → entryOf (take entrySize s) ≡ entryOf s
-entry-taken s = entry-≡ (two 0 (omega arith)) (λ i. two 2 (omega arith) i * 65536 + two 4 (omega arith) i) (two 6 (omega arith))
-  where
-    two : (j : ℕ) → j + 1 < entrySize → at16 (take entrySize s) j ≡ at16 s j
-    two j h = λ i. getD-take entrySize s j 0 (omega arith) i * 256 + getD-take entrySize s (j + 1) 0 h i
+entry-taken s = entry-≡ (two-within entrySize s 0 (omega arith)) (four-within entrySize s 2 (omega arith)) (two-within entrySize s 6 (omega arith))
 
 entries-at : (n : ℕ) (s : Bytes) (k : ℕ) → k < n → getD (map entryOf (entryParts n s)) k zeroEntry ≡ entryIn s (entrySize * k)
 entries-at zero s k h = absurd (omega arith)

@@ -1,12 +1,12 @@
--- Numbers out of bytes: bounds, numbers that stand some bytes further on, and the number of four bytes read from the lowest and turned
+-- Numbers out of bytes: bounds, numbers that stand some bytes further on or within the first bytes, and the number of four bytes read from the lowest and turned
 -- round. Assumes nothing.
 use mathlib.Core.Path.{_≡_, _∙_, sym, ap}
 use Prim.Native.Nat.{ℕ, _+_, _*_, _-_, _/_, _%_, _<_, _≤_}
 use native.Mathlib.Omega.{arith}
 use borrow.Author.Tests.{lt-ltb, le-ltb}
 use lib.IntN.{pos, negsuc}
-use lib.ListN.{drop, getD}
-use lib.Seq.{getD-drop}
+use lib.ListN.{take, drop, getD}
+use lib.Seq.{getD-drop, getD-take}
 use Rattle.numbers.specs.Bytes.{Bytes, Octets, at16, at32, signed}
 
 pub fits16 : (s : Bytes) (p : ℕ) → Octets s → at16 s p < 65536
@@ -25,6 +25,14 @@ module _ (n : ℕ) (s : Bytes) where
 
   pub four-on : (p q : ℕ) → q ≡ n + p → at32 (drop n s) p ≡ at32 s q
   four-on p q e = λ i. two-on p q e i * 65536 + two-on (p + 2) (q + 2) (omega arith) i
+
+-- .. and numbers within the first n bytes
+module _ (n : ℕ) (s : Bytes) where
+  pub two-within : (p : ℕ) → p + 2 ≤ n → at16 (take n s) p ≡ at16 s p
+  two-within p h = λ i. getD-take n s p 0 (omega arith) i * 256 + getD-take n s (p + 1) 0 (omega arith) i
+
+  pub four-within : (p : ℕ) → p + 4 ≤ n → at32 (take n s) p ≡ at32 s p
+  four-within p h = λ i. two-within p (omega arith) i * 65536 + two-within (p + 2) (omega arith) i
 
 pub signed-pos : (a : ℕ) → a < 2147483648 → signed a ≡ pos a
 signed-pos a h = simp (lt-ltb a 2147483648 h)

@@ -7,13 +7,13 @@ use native.Mathlib.Omega.{arith}
 use borrow.Author.Tests.{leb-true}
 use lib.Dec.{leb}
 use lib.ListN.{length, take, drop, getD}
-use lib.Seq.{getD-take}
 use Rattle.names.specs.Ordering.{Row, Rising}
 use Rattle.names.specs.Names.{isName}
 use Rattle.names.proofs.Validity.{valid-name}
 use Rattle.numbers.proofs.Bools.{and-0, and-1}
 use Rattle.names.proofs.Laws.{rising-Rising}
 use Rattle.numbers.specs.Bytes.{Bytes, at16}
+use Rattle.numbers.proofs.ReadNumbers.{two-within}
 use Rattle.slots.specs.Tuples.{tupleAt}
 use Rattle.numbers.specs.Lists.{every}
 use Rattle.slots.specs.Slots.{headSize, slotSize, depthOf, nameOf, slotOf, keepsSlot}
@@ -56,9 +56,6 @@ slot-position : (s : Bytes) (l : List Row) (n : ℕ) → depthOf s ≡ suc n →
 unfolding tupleAt
 slot-position s l n e = rw e
 
-part-position : (s : Bytes) → at16 (take slotSize s) headSize ≡ at16 s headSize
-part-position s = λ i. getD-take slotSize s 8 0 (omega arith) i * 256 + getD-take slotSize s 9 0 (omega arith) i
-
 pub first-at : (log : Bytes) → isLog log ≡ true → at16 log headSize ≡ firstPosition (namesOf log)
 first-at log e =
     let n = length log / slotSize in
@@ -71,7 +68,7 @@ first-at log e =
         let first = take slotSize log in
         let rest = parts n (drop slotSize log) in
         let k = kept first (and-0 (keepsSlot first) (every keepsSlot rest) g) in
-        sym (slot-position first (map nameIn (map slotOf rest)) (depthOf first - 1) (omega (arith, k .deep)) ∙ part-position log)
+        sym (slot-position first (map nameIn (map slotOf rest)) (depthOf first - 1) (omega (arith, k .deep)) ∙ two-within slotSize log headSize (omega arith))
 
 -- ── its names ──
 

@@ -4,6 +4,7 @@ use mathlib.Core.Path.{_≡_}
 use denote.Ref.{now}
 use Rattle.names.specs.Names.{rowOf}
 use Rattle.numbers.proofs.Settled.{one}
+use Rattle.slots.specs.Tuples.{tuplesAt}
 use Rattle.pages.proofs.page_ok.Reads as page-ok
 use Rattle.pages.proofs.slot_ok.Reads as slot-ok
 use Rattle.pages.proofs.page_rises.Reads as page-rises
@@ -12,6 +13,7 @@ use Rattle.pages.proofs.check_page.Reads as check-page
 use Rattle.pages.proofs.check_log.Reads as check-log
 use Rattle.pages.proofs.find.Reads as find
 use Rattle.pages.proofs.name_of.Reads as name-of
+use Rattle.pages.proofs.span_of.Reads as span-of
 
 pub page-ok-settled : (κs : _) (a : _) (r : _) (s : _) (r' : _) (s' : _) → page-ok.Learnt κs a r s → page-ok.Learnt κs a r' s' → r ≡ r'
 page-ok-settled κs a r s r' s' p q = one p q
@@ -36,3 +38,7 @@ find-settled κs a r s r' s' p q = one p q
 
 pub name-of-settled : (κs : _) (a : _) (r : _) (s : _) (r' : _) (s' : _) → name-of.Learnt κs a r s → name-of.Learnt κs a r' s' → rowOf r ≡ rowOf r'
 name-of-settled κs a r s r' s' p q = one p q
+
+-- where a name stands, up to the name
+pub span-of-settled : (κs : _) (a : _) (r : _) (s : _) (r' : _) (s' : _) → span-of.Learnt κs a r s → span-of.Learnt κs a r' s' → tuplesAt (now (a .0)) (r .at) (r .count) ≡ tuplesAt (now (a .0)) (r' .at) (r' .count)
+span-of-settled κs a r s r' s' p q = one (p .1) (q .1)

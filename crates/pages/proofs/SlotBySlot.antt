@@ -2,7 +2,7 @@
 use mathlib.Core.Path.{_≡_, refl, _∙_, sym, ap}
 use mathlib.Core.List.{List, [], _∷_, map}
 use mathlib.Core.Bool.{Bool, true, _&&_, and-true}
-use Prim.Native.Nat.{ℕ, zero, suc, _+_, _*_, _-_, _/_, _<_, _≤_}
+use Prim.Native.Nat.{ℕ, zero, suc, _+_, _*_, _-_, _/_, _<_, _≤_, min}
 use native.Mathlib.Nat.{le-of-suc-le-suc, not-suc-le-zero}
 use native.Mathlib.Numerals.{add-one}
 use native.Mathlib.Omega.{arith}
@@ -12,7 +12,11 @@ use Rattle.names.specs.declared.Order.{Order}
 use Rattle.names.specs.Ordering.{Row, compareRows, isLess, rising}
 use Rattle.numbers.specs.Bytes.{Bytes}
 use Rattle.numbers.specs.Lists.{every}
-use Rattle.slots.specs.Slots.{slotSize, slotOf, nameOf, keepsSlot}
+use Rattle.names.specs.Names.{limit}
+use Rattle.slots.specs.Tuples.{tuplesAt}
+use Rattle.slots.specs.Slots.{headSize, slotSize, depthOf, slotOf, nameOf, keepsSlot}
+use Rattle.slots.proofs.TuplesInBytes.{tuples-on, tuples-within}
+use Rattle.slots.proofs.NameTests.{name-is}
 use Rattle.numbers.proofs.Every.{every-at, every-end}
 use Rattle.numbers.proofs.Parts.{length-parts as length-equal, getD-parts}
 use Rattle.pages.specs.Pages.{parts, partsOf, slotsOf, nameIn, namesOf}
@@ -37,6 +41,14 @@ module _ (s : Bytes) (n k a : ℕ) (q : a ≡ slotSize * k) (h : k < n) where
       ap nameOf lent-part
       ∙ ap nameIn (sym (List·getD-map slotOf (parts n s) k []))
       ∙ sym (List·getD-map nameIn (map slotOf (parts n s)) k (slotOf []))
+
+  -- .. which stands in the page itself
+  pub lent-tuples : (d : ℕ) → d ≡ min (depthOf (lent s a)) limit → tuplesAt s (a + headSize) d ≡ getD (map nameIn (map slotOf (parts n s))) k []
+  lent-tuples d e =
+      sym (tuples-on a s headSize (a + headSize) d refl)
+      ∙ sym (tuples-within (a + slotSize - a) (drop a s) headSize d (omega arith))
+      ∙ name-is (lent s a) d e
+      ∙ lent-name
 
 -- ── a test of every slot ──
 

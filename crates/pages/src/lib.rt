@@ -2,10 +2,11 @@
 // Document 01, "Pages, logs, epochs" and "What comes back"; the definitions are in specs/.
 ghost use mathlib.Core.Path.{_≡_};
 ghost use mathlib.Core.Bool.{true};
-ghost use Prim.Native.Nat.{_≤_, _+_};
+ghost use Prim.Native.Nat.{_≤_, _+_, _*_};
 ghost use mathlib.Core.List.{[]};
 ghost use lib.ListN.{length, getD};
-ghost use Rattle.names.specs.Names.{rowOf};
+ghost use Rattle.names.specs.Names.{limit, rowOf};
+ghost use Rattle.slots.specs.Tuples.{tupleSize, tuplesAt};
 ghost use Rattle.numbers.specs.Lists.{every};
 ghost use Rattle.numbers.specs.Bytes.{put};
 ghost use Rattle.slots.specs.Slots.{slotSize, nameOf, keepsSlot};
@@ -15,7 +16,9 @@ use answers::Answer;
 use answers::Refusal;
 use names::Name;
 use names::Order;
+use slots::HEAD;
 use slots::SLOT;
+use slots::Span;
 
 // "A page is 0..256 slots": the most slots, and the bytes of the largest page.
 pub const SLOTS: usize = 256;
@@ -138,6 +141,21 @@ pub fn check_log(log: &[u8]) -> Answer
         return Answer::Refused(Refusal::BadLog);
     }
     Answer::Accepted(log.len() / SLOT)
+}
+
+// Where the name of slot k stands; beyond the page there is none.
+pub fn span_of(page: &[u8], k: usize) -> Span
+    ensures { λ r. ⌜ (r .at + tupleSize * r .count ≤ length (now (page .entry))) × (r .count ≤ limit) ⌝ }
+    ensures { λ r. ⌜ tuplesAt (now (page .entry)) (r .at) (r .count) ≡ getD (namesOf (now (page .entry))) k [] ⌝ }
+{
+    if k < page.len() / SLOT {
+        let at = SLOT * k;
+        let end = at + SLOT;
+        let count = slots::depth(&page[at..end]);
+        let tuples = at + HEAD;
+        return Span { at: tuples, count };
+    }
+    Span { at: 0, count: 0 }
 }
 
 // The name of slot k, or none beyond the page.

@@ -11,7 +11,7 @@ use Rattle.names.specs.Ordering.{Row}
 use Rattle.names.specs.Names.{m}
 use Rattle.numbers.specs.Bytes.{Bytes, signed}
 use Rattle.slots.specs.Tuples.{tupleAt, tuplesAt, tupleSize}
-use Rattle.numbers.proofs.ReadNumbers.{two-on, four-on}
+use Rattle.numbers.proofs.ReadNumbers.{two-on, four-on, two-within, four-within}
 
 pub length-tuplesAt : (s : Bytes) (p n : ℕ) → length (tuplesAt s p n) ≡ n
 length-tuplesAt s p zero = refl
@@ -41,6 +41,21 @@ module _ (d : ℕ) (s : Bytes) where
   pub tuples-on : (p q n : ℕ) → q ≡ d + p → tuplesAt (drop d s) p n ≡ tuplesAt s q n
   tuples-on p q zero e = refl
   tuples-on p q (suc n) e = λ i. tuple-on p q e i ∷ tuples-on (p + tupleSize) (q + tupleSize) n (omega arith) i
+
+-- tuples within the first k bytes
+module _ (k : ℕ) (s : Bytes) where
+  tuple-within : (p : ℕ) → p + tupleSize ≤ k → tupleAt (take k s) p ≡ tupleAt s p
+  unfolding tupleAt
+  tuple-within p h = λ i. record {
+    position = two-within k s p (omega arith) i;
+    node = two-within k s (p + 2) (omega arith) i;
+    sequence = four-within k s (p + 4) (omega arith) i;
+    offset = signed (four-within k s (p + 8) (omega arith) i);
+  }
+
+  pub tuples-within : (p n : ℕ) → p + tupleSize * n ≤ k → tuplesAt (take k s) p n ≡ tuplesAt s p n
+  tuples-within p zero h = refl
+  tuples-within p (suc n) h = λ i. tuple-within p (omega arith) i ∷ tuples-within (p + tupleSize) n (omega arith) i
 
 pub filled-all : (s : Bytes) (p n : ℕ) (l : Row) → n ≤ length l → ((j : ℕ) → j < n → getD l j m ≡ tupleAt s (p + tupleSize * j)) → take n l ≡ tuplesAt s p n
 filled-all s p n l h f =

@@ -23,6 +23,12 @@ pub const HEAD: usize = 8;
 
 pub const SLOT: usize = HEAD + TUPLE * LIMIT;
 
+// Where a name stands in some bytes: `count` tuples from `at` on. A name that is missing has none.
+pub struct Span {
+    pub at: usize,
+    pub count: usize,
+}
+
 // Where the line number stands in a slot, and node, sequence and offset in a tuple, after its position.
 const LINE: usize = 4;
 
