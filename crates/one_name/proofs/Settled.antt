@@ -3,17 +3,37 @@
 use mathlib.Core.Path.{_≡_}
 use Rattle.names.specs.declared.Joined.{Joined}
 use Rattle.names.specs.Names.{rowOf}
+use denote.Ref.{now}
 use Rattle.numbers.proofs.Settled.{one}
+use Rattle.pages.specs.Pages.{namesOf}
+use Rattle.one_name.specs.Backs.{shaped}
 use Rattle.one_name.proofs.walk.Reads as walk
+use Rattle.one_name.proofs.gains.Reads as gains
+use Rattle.one_name.proofs.renamed_by.Reads as renamed-by
+use Rattle.one_name.proofs.back_of.Reads as back-of
+use Rattle.one_name.proofs.made.Reads as made
 use Rattle.one_name.proofs.rename_name.Reads as rename-name
 use Rattle.one_name.proofs.take_back_name.Reads as take-back-name
 
 abbrev SameGiven : Joined → Joined → Type 0
 SameGiven r r' = (r .fits ≡ r' .fits) × (rowOf (r .name) ≡ rowOf (r' .name))
 
-pub walk-settled : (κs : _) (a : _) (r : _) (s : _) (r' : _) (s' : _) → walk.Learnt κs a r s → walk.Learnt κs a r' s' →
-    (r .below ≡ r' .below) × (r .case ≡ r' .case) × SameGiven (r .renamed) (r' .renamed)
-walk-settled κs a r s r' s' p q = (one (p .0 .0) (q .0 .0), one (p .0 .1) (q .0 .1), (one (p .1 .0) (q .1 .0), one (p .1 .1) (q .1 .1)))
+pub walk-settled : (κs : _) (a : _) (r : _) (s : _) (r' : _) (s' : _) → walk.Learnt κs a r s → walk.Learnt κs a r' s' → (r .below ≡ r' .below) × (r .case ≡ r' .case)
+walk-settled κs a r s r' s' p q = (one (p .0) (q .0), one (p .1) (q .1))
+
+pub gains-settled : (κs : _) (a : _) (r : _) (s : _) (r' : _) (s' : _) → gains.Learnt κs a r s → gains.Learnt κs a r' s' → r ≡ r'
+gains-settled κs a r s r' s' p q = one p q
+
+pub renamed-by-settled : (κs : _) (a : _) (r : _) (s : _) (r' : _) (s' : _) → renamed-by.Learnt κs a r s → renamed-by.Learnt κs a r' s' → SameGiven r r'
+renamed-by-settled κs a r s r' s' p q = (one (p .0) (q .0), one (p .1) (q .1))
+
+-- the shape, up to the row that it stands for
+pub back-of-settled : (κs : _) (a : _) (r : _) (s : _) (r' : _) (s' : _) → back-of.Learnt κs a r s → back-of.Learnt κs a r' s' →
+    shaped (now (a .1 .1 .0)) (namesOf (now (a .0))) r ≡ shaped (now (a .1 .1 .0)) (namesOf (now (a .0))) r'
+back-of-settled κs a r s r' s' p q = one (p .1) (q .1)
+
+pub made-settled : (κs : _) (a : _) (r : _) (s : _) (r' : _) (s' : _) → made.Learnt κs a r s → made.Learnt κs a r' s' → SameGiven r r'
+made-settled κs a r s r' s' p q = (one (p .0) (q .0), one (p .1) (q .1))
 
 pub rename-name-settled : (κs : _) (a : _) (r : _) (s : _) (r' : _) (s' : _) → rename-name.Learnt κs a r s → rename-name.Learnt κs a r' s' → SameGiven r r'
 rename-name-settled κs a r s r' s' p q = (one (p .0) (q .0), one (p .1) (q .1))

@@ -9,6 +9,7 @@ ghost use Rattle.names.specs.Ordering.{compareRows, isLess};
 ghost use Rattle.names.specs.Names.{rowOf, fits};
 ghost use Rattle.numbers.specs.Lists.{every};
 ghost use Rattle.numbers.specs.Bytes.{put};
+ghost use Rattle.slots.specs.Tuples.{rowAt, Lies};
 ghost use Rattle.slots.specs.Slots.{slotSize, nameOf, lineOf, keepsSlot, slotBytes};
 ghost use Rattle.pages.specs.Pages.{keepsLayout, slotsOf, namesOf, pieces, rises, isLog};
 ghost use Rattle.answers.specs.Answers.{ask, inOrder, leaves};
@@ -22,6 +23,7 @@ use names::LIMIT;
 use names::Name;
 use slots::HEAD;
 use slots::SLOT;
+use slots::Span;
 
 // ── renaming a page: what decides ──
 
@@ -61,21 +63,22 @@ struct Fit {
     below: usize,
 }
 
-// "a name gains at most one tuple", so only a name of LIMIT tuples is renamed to see.
-fn renamed_fits(log: &[u8], author: Author, slot: &[u8], j: usize) -> Fit
-    requires { ⌜ (isLog (now log) ≡ true) × (length (now slot) ≡ slotSize) × (j ≤ below (nameOf (now slot)) (namesOf (now log))) ⌝ }
-    ensures { λ r. ⌜ (r .fits ≡ fits (renameRow author (namesOf (now (log .entry))) (nameOf (now (slot .entry))))) × (r .below ≤ below (nameOf (now (slot .entry))) (namesOf (now (log .entry)))) ⌝ }
+// "a name gains at most one tuple", so only a name of LIMIT tuples is looked for in the log.
+fn renamed_fits(log: &[u8], author: Author, page: &[u8], x: Span, j: usize) -> Fit
+    requires { ⌜ (isLog (now log) ≡ true) × Lies (now page) x × (j ≤ below (rowAt (now page) x) (namesOf (now log))) ⌝ }
+    ensures { λ r. ⌜ (r .fits ≡ fits (renameRow author (namesOf (now (log .entry))) (rowAt (now (page .entry)) x))) × (r .below ≤ below (rowAt (now (page .entry)) x) (namesOf (now (log .entry)))) ⌝ }
 {
-    if slots::depth(slot) < LIMIT {
+    if x.count < LIMIT {
         return Fit {
             fits: true,
             below: j,
         };
     }
-    let w = one_name::walk(log, author, slots::read_name(slot), j);
-    let r = w.renamed;
+    let w = one_name::walk(log, author, page, x, j);
+    let case = w.case;
+    let gains = one_name::gains(case);
     Fit {
-        fits: r.fits,
+        fits: !gains,
         below: w.below,
     }
 }
@@ -92,9 +95,7 @@ fn all_renamed_fit(page: &[u8], log: &[u8], author: Author) -> bool
         if n <= i {
             break true;
         }
-        let at = SLOT * i;
-        let end = at + SLOT;
-        let r = renamed_fits(log, author, &page[at..end], j);
+        let r = renamed_fits(log, author, page, pages::span_of(page, i), j);
         if !r.fits {
             break false;
         }
@@ -125,9 +126,10 @@ fn write_renamed(page: &[u8], log: &[u8], author: Author, out: &mut [u8])
     while i < n {
         let at = SLOT * i;
         let end = at + SLOT;
-        let x = slots::read_name(&page[at..end]);
-        let w = one_name::walk(log, author, x, j);
-        let renamed = w.renamed;
+        let x = pages::span_of(page, i);
+        let w = one_name::walk(log, author, page, x, j);
+        let case = w.case;
+        let renamed = one_name::renamed_by(log, author, case, page, x);
         let name = renamed.name;
         carry(&page[at..end], name, out, at);
         j = w.below;
@@ -146,8 +148,8 @@ fn write_back(page: &[u8], log: &[u8], author: Author, out: &mut [u8])
     while i < n {
         let at = SLOT * i;
         let end = at + SLOT;
-        let c = slots::read_name(&page[at..end]);
-        let r = one_name::take_back_name(log, author, c);
+        let back = one_name::back_of(log, author, page, pages::span_of(page, i));
+        let r = one_name::made(log, page, back);
         let old = r.name;
         carry(&page[at..end], old, out, at);
         i += 1;
@@ -231,7 +233,8 @@ fn check_back(page: &[u8], log: &[u8], author: Author) -> Checked
         if n <= i {
             break check_rising(rises);
         }
-        let r = one_name::take_back_name(log, author, pages::name_of(page, i));
+        let back = one_name::back_of(log, author, page, pages::span_of(page, i));
+        let r = one_name::made(log, page, back);
         if !r.fits {
             break Checked::Refused(Refusal::TooDeep);
         }

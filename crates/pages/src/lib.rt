@@ -2,11 +2,11 @@
 // Document 01, "Pages, logs, epochs" and "What comes back"; the definitions are in specs/.
 ghost use mathlib.Core.Path.{_≡_};
 ghost use mathlib.Core.Bool.{true};
-ghost use Prim.Native.Nat.{_≤_, _+_, _*_};
+ghost use Prim.Native.Nat.{_≤_, _+_};
 ghost use mathlib.Core.List.{[]};
 ghost use lib.ListN.{length, getD};
-ghost use Rattle.names.specs.Names.{limit, rowOf};
-ghost use Rattle.slots.specs.Tuples.{tupleSize, tuplesAt};
+ghost use Rattle.names.specs.Names.{rowOf};
+ghost use Rattle.slots.specs.Tuples.{rowAt, Lies};
 ghost use Rattle.numbers.specs.Lists.{every};
 ghost use Rattle.numbers.specs.Bytes.{put};
 ghost use Rattle.slots.specs.Slots.{slotSize, nameOf, keepsSlot};
@@ -145,8 +145,7 @@ pub fn check_log(log: &[u8]) -> Answer
 
 // Where the name of slot k stands; beyond the page there is none.
 pub fn span_of(page: &[u8], k: usize) -> Span
-    ensures { λ r. ⌜ (r .at + tupleSize * r .count ≤ length (now (page .entry))) × (r .count ≤ limit) ⌝ }
-    ensures { λ r. ⌜ tuplesAt (now (page .entry)) (r .at) (r .count) ≡ getD (namesOf (now (page .entry))) k [] ⌝ }
+    ensures { λ r. ⌜ Lies (now (page .entry)) r × (rowAt (now (page .entry)) r ≡ getD (namesOf (now (page .entry))) k []) ⌝ }
 {
     if k < page.len() / SLOT {
         let at = SLOT * k;

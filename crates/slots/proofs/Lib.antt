@@ -5,4 +5,5 @@ pub mod ZeroTuples
 pub mod NameTests
 pub mod WrittenSlots
 pub mod RoundTrip
+pub mod HeldNames
 pub mod Settled

@@ -1,7 +1,7 @@
 -- Tuples one after the other in a row of bytes. Assumes nothing.
 use mathlib.Core.Path.{_≡_, refl, _∙_, sym, ap}
 use mathlib.Core.List.{List, _∷_}
-use Prim.Native.Nat.{ℕ, zero, suc, _+_, _*_, _<_, _≤_}
+use Prim.Native.Nat.{ℕ, zero, suc, _+_, _-_, _*_, _<_, _≤_}
 use native.Mathlib.Nat.{le-of-suc-le-suc, not-suc-le-zero}
 use native.Mathlib.Omega.{arith}
 use borrow.Author.Count.{below-more}
@@ -26,6 +26,11 @@ pub take-tuplesAt : (s : Bytes) (p n k : ℕ) → k ≤ n → take k (tuplesAt s
 take-tuplesAt s p n zero h = refl
 take-tuplesAt s p zero (suc k) h = absurd (not-suc-le-zero h)
 take-tuplesAt s p (suc n) (suc k) h = ap (λ (l : Row). tupleAt s p ∷ l) (take-tuplesAt s (p + tupleSize) n k (le-of-suc-le-suc h))
+
+-- the tuples after the first
+pub tail-tuplesAt : (s : Bytes) (p n : ℕ) → 1 ≤ n → tuplesAt s (p + tupleSize) (n - 1) ≡ drop 1 (tuplesAt s p n)
+tail-tuplesAt s p zero h = absurd (not-suc-le-zero h)
+tail-tuplesAt s p (suc n) h = let e : suc n - 1 ≡ n = omega arith in ap (tuplesAt s (p + tupleSize)) e
 
 -- tuples that stand d bytes further on
 module _ (d : ℕ) (s : Bytes) where

@@ -1,8 +1,11 @@
 -- Tuples as bytes: document 01, "Pages, logs, epochs".
-use Prim.Native.Nat.{ℕ, zero, suc, _+_}
+use Prim.Native.Nat.{ℕ, zero, suc, _+_, _*_, _≤_}
 use mathlib.Core.List.{[], _∷_, _++_}
 use Rattle.names.specs.declared.Tuple.{Tuple}
+use lib.ListN.{length}
 use Rattle.names.specs.Ordering.{Row}
+use Rattle.names.specs.Names.{limit}
+use Rattle.slots.specs.declared.Span.{Span}
 use Rattle.numbers.specs.Bytes.{Bytes, at16, at32, signed, unsigned, bytes16, bytes32}
 
 -- ── from bytes ──
@@ -23,6 +26,14 @@ tupleAt s p = record {
 abbrev pub tuplesAt : Bytes → ℕ → ℕ → Row
 tuplesAt s p zero = []
 tuplesAt s p (suc n) = tupleAt s p ∷ tuplesAt s (p + tupleSize) n
+
+-- a name where it stands in some bytes, as the code says it (`Span`, src/lib.rt)
+abbrev pub rowAt : Bytes → Span → Row
+rowAt s x = tuplesAt s (x .at) (x .count)
+
+-- it lies within the bytes, and has no more tuples than a name
+abbrev pub Lies : Bytes → Span → Type 0
+Lies s x = (x .at + tupleSize * x .count ≤ length s) × (x .count ≤ limit)
 
 -- ── to bytes ──
 

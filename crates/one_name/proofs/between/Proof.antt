@@ -1,52 +1,98 @@
 -- `one_name::between` meets its contract. Assumes nothing.
-use mathlib.Core.Path.{_∙_, sym}
-use mathlib.Core.List.{_∷_, _++_}
-use Rattle.names.specs.Names.{rowOf, m, M}
-use Rattle.name_renames.specs.Renaming.{under, over}
-use Rattle.name_renames.proofs.Splits.{if-above, if-not-above}
-use Rattle.names.proofs.TestedOrder.{is-under, not-under}
-use Rattle.name_values.proofs.GivenRows.{gives}
+use mathlib.Core.Path.{_∙_, ap}
+use mathlib.Core.List.{[], _∷_, _++_}
+use Prim.Native.Nat.{_+_, _/_}
+use native.Mathlib.Omega.{arith}
+use denote.Ref.{now}
+use lib.ListN.{length, getD}
+use Rattle.names.specs.Ordering.{Row, compareRows}
+use Rattle.names.specs.Names.{m, M, oneBelow}
+use Rattle.slots.specs.Tuples.{rowAt}
+use Rattle.slots.specs.Slots.{slotSize}
+use Rattle.pages.specs.Pages.{namesOf}
+use Rattle.pages.proofs.SlotBySlot.{length-names}
+use Rattle.name_renames.specs.Renaming.{ifNotBelow, under}
+use Rattle.name_renames.proofs.ByTest.{chosen}
 use borrow.Author.Needs.{needs}
 use Rattle.one_name.proofs.between.Statement.{statement}
 use Rattle.one_name.proofs.between.Tie as tie
 
-is-below-requires : tie.Need-is-below-requires
-is-below-requires c κs = search needs
+-- "If t is not below r(k+1), one below r(k+1), then M, then t. Otherwise t."
+abbrev inner : Row → Row → Row
+inner q t = ifNotBelow t q (oneBelow q ++ (M ∷ t)) t
+
+span-of-requires : tie.Need-span-of-requires
+span-of-requires c κs = search needs
+
+compare-rows-requires : tie.Need-compare-rows-requires
+compare-rows-requires c κs =
+    let start : tie.Start = search needs in
+    (start .pre .1 .0, c .span-of .ensures .0 .0)
+
+enum-told : tie.Need-enum-told
+enum-told c = search needs
+
+enum-told-2 : tie.Need-enum-told-2
+enum-told-2 c = search needs
+
+enum-told-3 : tie.Need-enum-told-3
+enum-told-3 c = search needs
+
+add-under : tie.Need-add-under
+add-under c =
+    let start : tie.Start = search needs in
+    let log = now (start .args .log) in
+    omega (arith, length-names log (length log / slotSize))
 
 under-requires : tie.Need-under-requires
 under-requires c κs = search needs
 
 returns : tie.Need-returns
-unfolding over under
 returns c =
+    let after-compare-rows : tie.After-compare-rows = search needs in
+    let after-span-of : tie.After-span-of = search needs in
     let start : tie.Start = search needs in
-    let after-is-below : tie.After-is-below = search needs in
-    let then1 : tie.Then1 = search needs in
-    let v = rowOf (start .args .t) in
-    let r = rowOf (start .args .r) in
-    let h = is-under r v (sym (after-is-below .is-below .ensures) ∙ then1 .if1 .taken) in
-    gives (c .under .result) (sym (if-above (under (rowOf (start .args .q)) v) (r ++ (m ∷ v)) h)) (c .under .ensures)
-
-behind-requires : tie.Need-behind-requires
-behind-requires c κs = search needs
+    let a = start .args in
+    let t = rowAt (now (a .s)) (a .t) in
+    let r = getD (namesOf (now (a .log))) (a .k) [] in
+    let found = after-compare-rows .compare-rows .ensures ∙ ap (compareRows t) (after-span-of .span-of .ensures .1) in
+    ((omega arith, start .pre .1), chosen t r (r ++ (m ∷ t)) (r ++ (m ∷ t)) (inner (getD (namesOf (now (a .log))) (a .k + 1) []) t) found (c .enum-told .given .1))
 
 returns-2 : tie.Need-returns-2
-unfolding over under
 returns-2 c =
+    let after-compare-rows : tie.After-compare-rows = search needs in
+    let after-span-of : tie.After-span-of = search needs in
     let start : tie.Start = search needs in
-    let after-is-below : tie.After-is-below = search needs in
-    let else1 : tie.Else1 = search needs in
-    let v = rowOf (start .args .t) in
-    let r = rowOf (start .args .r) in
-    let h = not-under r v (sym (after-is-below .is-below .ensures) ∙ else1 .if1 .left) in
-    gives (c .behind .result) (sym (if-not-above (under (rowOf (start .args .q)) v) (r ++ (m ∷ v)) h)) (c .behind .ensures)
+    let a = start .args in
+    let t = rowAt (now (a .s)) (a .t) in
+    let r = getD (namesOf (now (a .log))) (a .k) [] in
+    let found = after-compare-rows .compare-rows .ensures ∙ ap (compareRows t) (after-span-of .span-of .ensures .1) in
+    ((omega arith, start .pre .1), chosen t r (r ++ (m ∷ t)) (r ++ (m ∷ t)) (inner (getD (namesOf (now (a .log))) (a .k + 1) []) t) found (c .enum-told2 .given .1))
+
+returns-3 : tie.Need-returns-3
+unfolding under
+returns-3 c =
+    let after-compare-rows : tie.After-compare-rows = search needs in
+    let after-span-of : tie.After-span-of = search needs in
+    let start : tie.Start = search needs in
+    let a = start .args in
+    let t = rowAt (now (a .s)) (a .t) in
+    let r = getD (namesOf (now (a .log))) (a .k) [] in
+    let found = after-compare-rows .compare-rows .ensures ∙ ap (compareRows t) (after-span-of .span-of .ensures .1) in
+    let after-enum-told3 : tie.After-enum-told3 = search needs in
+    (c .under .ensures .0, c .under .ensures .1 ∙ chosen t r (r ++ (m ∷ t)) (r ++ (m ∷ t)) (inner (getD (namesOf (now (a .log))) (a .k + 1) []) t) found (after-enum-told3 .enum-told3 .given .1))
 
 pub between-spec : {M : Type 1} → statement M
 between-spec =
     tie.close
     (tie.spec
-    is-below-requires
+    span-of-requires
+    compare-rows-requires
+    enum-told
+    enum-told-2
+    enum-told-3
+    add-under
     under-requires
     returns
-    behind-requires
-    returns-2)
+    returns-2
+    returns-3)

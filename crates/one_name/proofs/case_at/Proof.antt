@@ -7,7 +7,7 @@ use denote.Ref.{now}
 use lib.ListN.{length}
 use Rattle.names.specs.declared.Author.{Author}
 use Rattle.names.specs.Ordering.{Row}
-use Rattle.names.specs.Names.{rowOf}
+use Rattle.slots.specs.Tuples.{rowAt}
 use Rattle.pages.specs.declared.Place.the-variants.{Gap}
 use Rattle.pages.specs.Pages.{namesOf}
 use Rattle.pages.specs.Places.{placeOf}
@@ -43,12 +43,12 @@ returns c =
     let after-place2 : tie.After-place2 = search needs in
     let a = start .args in
     let s = now (a .log) in
-    let x = rowOf (a .x) in
+    let x = rowAt (now (a .s)) (a .x) in
     let l = logged s (start .pre .0) in
     let p = firstPosition (namesOf s) in
     let k = after-place2 .place2 .given .0 .0 in
     let z : k ≡ 0 = omega arith in
-    let e : placeOf x (namesOf s) ≡ Gap 0 = sym (start .pre .1) ∙ after-place2 .place2 .given .1 ∙ ap Gap z in
+    let e : placeOf x (namesOf s) ≡ Gap 0 = sym (start .pre .2) ∙ after-place2 .place2 .given .1 ∙ ap Gap z in
     let same-p = ap (λ (q : ℕ). ifBelow x (N q (a .author) 0) KeepBelow PutBelow) (after-first-position .first-position .ensures) in
     c .case-below .ensures ∙ same-p ∙ sym (case-first p (a .author) x (namesOf s) (l .rising) (l .some) e)
 
@@ -58,12 +58,12 @@ returns-2 c =
     let after-place2 : tie.After-place2 = search needs in
     let a = start .args in
     let s = now (a .log) in
-    let x = rowOf (a .x) in
+    let x = rowAt (now (a .s)) (a .x) in
     let l = logged s (start .pre .0) in
     let k = after-place2 .place2 .given .0 .0 in
     let z : k ≡ suc (k - 1) = omega arith in
     let h : suc (k - 1) < length (namesOf s) = omega (arith, l .count) in
-    let e : placeOf x (namesOf s) ≡ Gap (suc (k - 1)) = sym (start .pre .1) ∙ after-place2 .place2 .given .1 ∙ ap Gap z in
+    let e : placeOf x (namesOf s) ≡ Gap (suc (k - 1)) = sym (start .pre .2) ∙ after-place2 .place2 .given .1 ∙ ap Gap z in
     sym (case-gap (firstPosition (namesOf s)) (a .author) x (namesOf s) (l .rising) (k - 1) h e)
 
 case-above-requires : tie.Need-case-above-requires
@@ -76,8 +76,8 @@ case-above-requires c κs =
     let k = after-place2 .place2 .given .0 .0 in
     let z : k ≡ suc (k - 1) = omega arith in
     let h : length (namesOf s) ≤ suc (k - 1) = omega (arith, l .count) in
-    let e : placeOf (rowOf (a .x)) (namesOf s) ≡ Gap (suc (k - 1)) = sym (start .pre .1) ∙ after-place2 .place2 .given .1 ∙ ap Gap z in
-    let n = case-last (firstPosition (namesOf s)) (a .author) (rowOf (a .x)) (namesOf s) (l .rising) (k - 1) h e .0 in
+    let e : placeOf (rowAt (now (a .s)) (a .x)) (namesOf s) ≡ Gap (suc (k - 1)) = sym (start .pre .2) ∙ after-place2 .place2 .given .1 ∙ ap Gap z in
+    let n = case-last (firstPosition (namesOf s)) (a .author) (rowAt (now (a .s)) (a .x)) (namesOf s) (l .rising) (k - 1) h e .0 in
     omega (arith, l .few)
 
 returns-3 : tie.Need-returns-3
@@ -88,7 +88,7 @@ returns-3 c =
     let s = now (a .log) in
     let o = logged s (start .pre .0) .rising in
     let k = after-place .place .given .0 .0 in
-    sym (case-here (firstPosition (namesOf s)) (a .author) (rowOf (a .x)) (namesOf s) o k (sym (start .pre .1) ∙ after-place .place .given .1))
+    sym (case-here (firstPosition (namesOf s)) (a .author) (rowAt (now (a .s)) (a .x)) (namesOf s) o k (sym (start .pre .2) ∙ after-place .place .given .1))
 
 returns-4 : tie.Need-returns-4
 returns-4 c =
@@ -97,13 +97,13 @@ returns-4 c =
     let after-place2 : tie.After-place2 = search needs in
     let a = start .args in
     let s = now (a .log) in
-    let x = rowOf (a .x) in
+    let x = rowAt (now (a .s)) (a .x) in
     let l = logged s (start .pre .0) in
     let p = firstPosition (namesOf s) in
     let k = after-place2 .place2 .given .0 .0 in
     let z : k ≡ suc (k - 1) = omega arith in
     let h : length (namesOf s) ≤ suc (k - 1) = omega (arith, l .count) in
-    let e : placeOf x (namesOf s) ≡ Gap (suc (k - 1)) = sym (start .pre .1) ∙ after-place2 .place2 .given .1 ∙ ap Gap z in
+    let e : placeOf x (namesOf s) ≡ Gap (suc (k - 1)) = sym (start .pre .2) ∙ after-place2 .place2 .given .1 ∙ ap Gap z in
     above-as (a .author) x (k - 1) (c .case-above .ensures) (after-first-position .first-position .ensures)
     ∙ sym (case-last p (a .author) x (namesOf s) (l .rising) (k - 1) h e .1)
 

@@ -1,7 +1,8 @@
 -- `one_name::case_below` meets its contract. Assumes nothing.
 use borrow.Author.Needs.{needs}
 use lib.IntN.{pos}
-use Rattle.names.specs.Names.{rowOf}
+use denote.Ref.{now}
+use Rattle.slots.specs.Tuples.{rowAt}
 use Rattle.name_renames.specs.declared.Case.the-variants.{KeepBelow, PutBelow}
 use Rattle.name_renames.specs.Renaming.{lead}
 use Rattle.name_renames.proofs.ByTest.{chosen-one}
@@ -31,7 +32,7 @@ returns c =
     let x = start .args in
     let made = after-lead .lead in
     let found = after-compare-to-one .compare-to-one in
-    chosen-one (rowOf (x .x)) (made .result) (lead (x .p) (x .author) (pos 0)) KeepBelow PutBelow PutBelow (made .ensures) (found .ensures) (c .enum-told .given .1)
+    chosen-one (rowAt (now (x .s)) (x .x)) (made .result) (lead (x .p) (x .author) (pos 0)) KeepBelow PutBelow PutBelow (made .ensures) (found .ensures) (c .enum-told .given .1)
 
 returns-2 : tie.Need-returns-2
 returns-2 c =
@@ -41,7 +42,7 @@ returns-2 c =
     let x = start .args in
     let made = after-lead .lead in
     let found = after-compare-to-one .compare-to-one in
-    chosen-one (rowOf (x .x)) (made .result) (lead (x .p) (x .author) (pos 0)) KeepBelow PutBelow PutBelow (made .ensures) (found .ensures) (c .enum-told2 .given .1)
+    chosen-one (rowAt (now (x .s)) (x .x)) (made .result) (lead (x .p) (x .author) (pos 0)) KeepBelow PutBelow PutBelow (made .ensures) (found .ensures) (c .enum-told2 .given .1)
 
 returns-3 : tie.Need-returns-3
 returns-3 c =
@@ -51,7 +52,7 @@ returns-3 c =
     let x = start .args in
     let made = after-lead .lead in
     let found = after-compare-to-one .compare-to-one in
-    chosen-one (rowOf (x .x)) (made .result) (lead (x .p) (x .author) (pos 0)) KeepBelow PutBelow PutBelow (made .ensures) (found .ensures) (c .enum-told3 .given .1)
+    chosen-one (rowAt (now (x .s)) (x .x)) (made .result) (lead (x .p) (x .author) (pos 0)) KeepBelow PutBelow PutBelow (made .ensures) (found .ensures) (c .enum-told3 .given .1)
 
 pub case-below-spec : {M : Type 1} → statement M
 case-below-spec =

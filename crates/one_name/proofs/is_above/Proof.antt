@@ -2,7 +2,8 @@
 use mathlib.Core.Path.{_∙_, sym, ap}
 use mathlib.Core.List.{[], _∷_}
 use Rattle.names.specs.Ordering.{isLess}
-use Rattle.names.specs.Names.{rowOf}
+use denote.Ref.{now}
+use Rattle.slots.specs.Tuples.{rowAt}
 use Rattle.names.proofs.TestedOrder.{turned-less, turned-same, turned-more}
 use borrow.Author.Needs.{needs}
 use Rattle.one_name.proofs.is_above.Statement.{statement}
@@ -24,19 +25,19 @@ returns : tie.Need-returns
 returns c =
     let start : tie.Start = search needs in
     let after-compare-to-one : tie.After-compare-to-one = search needs in
-    ap isLess (turned-less (rowOf (start .args .a)) (start .args .t ∷ []) (sym (after-compare-to-one .compare-to-one .ensures) ∙ c .enum-told .given .1))
+    ap isLess (turned-less (rowAt (now (start .args .s)) (start .args .x)) (start .args .t ∷ []) (sym (after-compare-to-one .compare-to-one .ensures) ∙ c .enum-told .given .1))
 
 returns-2 : tie.Need-returns-2
 returns-2 c =
     let start : tie.Start = search needs in
     let after-compare-to-one : tie.After-compare-to-one = search needs in
-    ap isLess (turned-same (rowOf (start .args .a)) (start .args .t ∷ []) (sym (after-compare-to-one .compare-to-one .ensures) ∙ c .enum-told2 .given .1))
+    ap isLess (turned-same (rowAt (now (start .args .s)) (start .args .x)) (start .args .t ∷ []) (sym (after-compare-to-one .compare-to-one .ensures) ∙ c .enum-told2 .given .1))
 
 returns-3 : tie.Need-returns-3
 returns-3 c =
     let start : tie.Start = search needs in
     let after-compare-to-one : tie.After-compare-to-one = search needs in
-    ap isLess (turned-more (rowOf (start .args .a)) (start .args .t ∷ []) (sym (after-compare-to-one .compare-to-one .ensures) ∙ c .enum-told3 .given .1))
+    ap isLess (turned-more (rowAt (now (start .args .s)) (start .args .x)) (start .args .t ∷ []) (sym (after-compare-to-one .compare-to-one .ensures) ∙ c .enum-told3 .given .1))
 
 pub is-above-spec : {M : Type 1} → statement M
 is-above-spec =

@@ -1,9 +1,10 @@
 -- `one_name::strip_above` meets its contract. Assumes nothing.
 use mathlib.Core.Path.{_∙_, sym}
 use borrow.Author.Tests.{not-true, not-false}
-use lib.ListN.{drop}
-use Rattle.names.specs.Names.{rowOf}
-use Rattle.name_values.proofs.JoinedRows.{row-of}
+use native.Mathlib.Omega.{arith}
+use denote.Ref.{now}
+use Rattle.slots.specs.Tuples.{rowAt}
+use Rattle.slots.proofs.TuplesInBytes.{length-tuplesAt}
 use Rattle.name_renames.proofs.ByTest.{begins-long, begins-as, low-as, above-kept, above-high, above-cut}
 use borrow.Author.Needs.{needs}
 use Rattle.one_name.proofs.strip_above.Statement.{statement}
@@ -21,23 +22,28 @@ returns c =
     let first : tie.After-numbered = search needs in
     let begun : tie.After-begins = search needs in
     let x = start .args in
-    let a = rowOf (x .c) in
+    let a = rowAt (now (x .s)) (x .c) in
     let b = begins-as a (first .numbered .ensures) (begun .begins .ensures) (not-true (begun .begins .result) (c .if1 .taken)) in
-    above-kept (x .p) (x .author) (x .k) a b
+    (start .pre .1, above-kept (x .p) (x .author) (x .k) a b)
 
 tail-requires : tie.Need-tail-requires
 tail-requires c κs =
     let start : tie.Start = search needs in
     let first : tie.After-numbered = search needs in
     let begun : tie.After-begins = search needs in
+    let x = start .args in
+    let a = rowAt (now (x .s)) (x .c) in
     let b = sym (begun .begins .ensures) ∙ not-false (begun .begins .result) (c .if1 .left) in
-    begins-long (rowOf (start .args .c)) (first .numbered .result) b
+    let h = begins-long a (first .numbered .result) b in
+    (start .pre .1, omega (arith, length-tuplesAt (now (x .s)) (x .c .at) (x .c .count)))
 
 numbered-requires-2 : tie.Need-numbered-requires-2
 numbered-requires-2 c κs = search needs
 
 is-below-requires : tie.Need-is-below-requires
-is-below-requires c κs = search needs
+is-below-requires c κs =
+    let cut : tie.After-tail = search needs in
+    cut .tail .ensures .0
 
 returns-2 : tie.Need-returns-2
 returns-2 c =
@@ -49,11 +55,11 @@ returns-2 c =
     let second : tie.After-numbered2 = search needs in
     let low : tie.After-is-below = search needs in
     let x = start .args in
-    let a = rowOf (x .c) in
+    let a = rowAt (now (x .s)) (x .c) in
     let b = begins-as a (first .numbered .ensures) (begun .begins .ensures) (not-false (begun .begins .result) (on .if1 .left)) in
-    let d = row-of (drop 1 a) (cut .tail .ensures) in
+    let d = cut .tail .ensures .1 in
     let l = low-as d (second .numbered2 .ensures) (low .is-below .ensures) (c .if2 .taken) in
-    d ∙ above-cut (x .p) (x .author) (x .k) a b l
+    (cut .tail .ensures .0, d ∙ above-cut (x .p) (x .author) (x .k) a b l)
 
 returns-3 : tie.Need-returns-3
 returns-3 c =
@@ -65,11 +71,11 @@ returns-3 c =
     let second : tie.After-numbered2 = search needs in
     let low : tie.After-is-below = search needs in
     let x = start .args in
-    let a = rowOf (x .c) in
+    let a = rowAt (now (x .s)) (x .c) in
     let b = begins-as a (first .numbered .ensures) (begun .begins .ensures) (not-false (begun .begins .result) (on .if1 .left)) in
-    let d = row-of (drop 1 a) (cut .tail .ensures) in
+    let d = cut .tail .ensures .1 in
     let l = low-as d (second .numbered2 .ensures) (low .is-below .ensures) (c .if2 .left) in
-    above-high (x .p) (x .author) (x .k) a b l
+    (start .pre .1, above-high (x .p) (x .author) (x .k) a b l)
 
 pub strip-above-spec : {M : Type 1} → statement M
 strip-above-spec =

@@ -1,162 +1,48 @@
 -- `one_name::take_back_name` meets its contract. Assumes nothing.
-use mathlib.Core.Path.{_≡_, refl, _∙_, sym, ap, subst}
-use mathlib.Core.Bool.{Bool}
-use mathlib.Core.List.{[], _∷_}
-use Prim.Native.Nat.{ℕ, suc, _-_, _/_}
-use native.Mathlib.Omega.{arith}
+use mathlib.Core.Path.{_∙_, ap}
 use denote.Ref.{now}
-use lib.IntN.{pos}
-use lib.ListN.{length}
-use Rattle.names.specs.declared.Tuple.{Tuple}
-use Rattle.names.specs.Ordering.{Row, compareRows, isLess, _≤ⁿ_}
-use Rattle.names.specs.Names.{rowOf, isName}
-use Rattle.slots.specs.Slots.{slotSize}
 use Rattle.pages.specs.Pages.{namesOf}
-use Rattle.name_renames.specs.Renaming.{firstPosition, lead, N, under, over, stripBelow, stripAbove}
-use Rattle.names.proofs.TestedOrder.{is-under, not-under}
 use Rattle.name_values.proofs.GivenRows.{gives}
-use Rattle.name_renames.proofs.ByTest.{low-as}
-use Rattle.name_renames.proofs.BackByIndex.{back-under, back-over}
-use Rattle.one_name.proofs.CheckedLog.{logged, log-named}
+use Rattle.name_renames.specs.Renaming.{takeBack}
 use borrow.Author.Needs.{needs}
 use Rattle.one_name.proofs.take_back_name.Statement.{statement}
 use Rattle.one_name.proofs.take_back_name.Tie as tie
 
-above-as : (x : Row) {u v : Tuple} {b r : Bool} → u ≡ v → r ≡ isLess (compareRows (u ∷ []) x) → r ≡ b → isLess (compareRows (v ∷ []) x) ≡ b
-above-as x d f g = sym (ap (λ (t : Tuple). isLess (compareRows (t ∷ []) x)) d) ∙ sym f ∙ g
+slice-aggregate-stand : tie.Need-slice-aggregate-stand
+slice-aggregate-stand c = search needs
 
-first-position-requires : tie.Need-first-position-requires
-first-position-requires c κs = search needs
+stand-requires : tie.Need-stand-requires
+stand-requires c κs = search needs
 
-lead-requires : tie.Need-lead-requires
-lead-requires c κs = search needs
+slice-aggregate-back-of : tie.Need-slice-aggregate-back-of
+slice-aggregate-back-of c = search needs
 
-is-below-requires : tie.Need-is-below-requires
-is-below-requires c κs = search needs
+back-of-requires : tie.Need-back-of-requires
+back-of-requires c κs = search needs
 
-name-of-requires : tie.Need-name-of-requires
-name-of-requires c κs = search needs
+slice-aggregate-made : tie.Need-slice-aggregate-made
+slice-aggregate-made c = search needs
 
-strip-below-requires : tie.Need-strip-below-requires
-strip-below-requires c κs = search needs
-
-under-requires : tie.Need-under-requires
-under-requires c κs =
-    let start : tie.Start = search needs in
-    let after-name-of : tie.After-name-of = search needs in
-    let s = now (start .args .log) in
-    ap isName (after-name-of .name-of .ensures) ∙ log-named s 0 (start .pre) (omega (arith, logged s (start .pre) .some))
+made-requires : tie.Need-made-requires
+made-requires c κs = search needs
 
 returns : tie.Need-returns
 returns c =
+    let after-back-of : tie.After-back-of = search needs in
+    let after-stand : tie.After-stand = search needs in
     let start : tie.Start = search needs in
-    let after-first-position : tie.After-first-position = search needs in
-    let after-lead : tie.After-lead = search needs in
-    let after-is-below : tie.After-is-below = search needs in
-    let then1 : tie.Then1 = search needs in
-    let after-name-of : tie.After-name-of = search needs in
-    let after-strip-below : tie.After-strip-below = search needs in
-    let a = start .args in
-    let s = now (a .log) in
-    let l = logged s (start .pre) in
-    let p = firstPosition (namesOf s) in
-    let x = rowOf (a .c) in
-    let u = after-lead .lead .ensures ∙ ap (λ (n : ℕ). lead n (a .author) (pos 0)) (after-first-position .first-position .ensures) in
-    let h = is-under x (N p (a .author) 0) (low-as refl u (after-is-below .is-below .ensures) (then1 .if1 .taken)) in
-    let v = after-strip-below .strip-below .ensures ∙ ap (λ (n : ℕ). stripBelow n (a .author) x) (after-first-position .first-position .ensures) in
-    gives (c .under .result) ((λ i. under (after-name-of .name-of .ensures i) (v i)) ∙ back-under (a .author) x (namesOf s) (l .some) h) (c .under .ensures)
-
-sub-last : tie.Need-sub-last
-sub-last c =
-    let start : tie.Start = search needs in
-    let l = logged (now (start .args .log)) (start .pre) in
-    omega (arith, l .some, l .count)
-
-numbered-requires : tie.Need-numbered-requires
-numbered-requires c κs =
-    let start : tie.Start = search needs in
-    let l = logged (now (start .args .log)) (start .pre) in
-    omega (arith, l .some, l .few, l .count)
-
-is-above-requires : tie.Need-is-above-requires
-is-above-requires c κs = search needs
-
-name-of-requires-2 : tie.Need-name-of-requires-2
-name-of-requires-2 c κs = search needs
-
-strip-above-requires : tie.Need-strip-above-requires
-strip-above-requires c κs =
-    let start : tie.Start = search needs in
-    let l = logged (now (start .args .log)) (start .pre) in
-    omega (arith, l .some, l .few, l .count)
-
-over-requires : tie.Need-over-requires
-over-requires c κs = search needs
-
-returns-2 : tie.Need-returns-2
-returns-2 c =
-    let start : tie.Start = search needs in
-    let after-first-position : tie.After-first-position = search needs in
-    let after-lead : tie.After-lead = search needs in
-    let after-numbered : tie.After-numbered = search needs in
-    let after-is-above : tie.After-is-above = search needs in
-    let then2 : tie.Then2 = search needs in
-    let after-name-of2 : tie.After-name-of2 = search needs in
-    let after-strip-above : tie.After-strip-above = search needs in
-    let a = start .args in
-    let s = now (a .log) in
-    let l = logged s (start .pre) in
-    let p = firstPosition (namesOf s) in
-    let x = rowOf (a .c) in
-    let u = after-lead .lead .ensures ∙ ap (λ (n : ℕ). lead n (a .author) (pos 0)) (after-first-position .first-position .ensures) in
-    let k = length s / slotSize - 1 in
-    let d = after-numbered .numbered .ensures ∙ ap (λ (n : ℕ). lead n (a .author) (pos k)) (after-first-position .first-position .ensures) in
-    let e : suc k ≡ length (namesOf s) = omega (arith, l .some, l .count) in
-    let h = is-under (N p (a .author) k) x (above-as x d (after-is-above .is-above .ensures) (then2 .if2 .taken)) in
-    let v = after-strip-above .strip-above .ensures ∙ ap (λ (n : ℕ). stripAbove n (a .author) k x) (after-first-position .first-position .ensures) in
-    gives (c .over .result) ((λ i. over (after-name-of2 .name-of2 .ensures i) (v i) (v i)) ∙ back-over (a .author) x (namesOf s) k e h) (c .over .ensures)
-
-back-within-requires : tie.Need-back-within-requires
-back-within-requires c κs =
-    let start : tie.Start = search needs in
-    let after-first-position : tie.After-first-position = search needs in
-    let after-lead : tie.After-lead = search needs in
-    let after-is-below : tie.After-is-below = search needs in
-    let else1 : tie.Else1 = search needs in
-    let after-numbered : tie.After-numbered = search needs in
-    let after-is-above : tie.After-is-above = search needs in
-    let a = start .args in
-    let s = now (a .log) in
-    let l = logged s (start .pre) in
-    let p = firstPosition (namesOf s) in
-    let x = rowOf (a .c) in
-    let u = after-lead .lead .ensures ∙ ap (λ (n : ℕ). lead n (a .author) (pos 0)) (after-first-position .first-position .ensures) in
-    let k = length s / slotSize - 1 in
-    let d = after-numbered .numbered .ensures ∙ ap (λ (n : ℕ). lead n (a .author) (pos k)) (after-first-position .first-position .ensures) in
-    let e : k ≡ length (namesOf s) - 1 = omega (arith, l .count) in
-    let g : x ≤ⁿ N p (a .author) k = not-under (N p (a .author) k) x (above-as x d (after-is-above .is-above .ensures) (c .if2 .left)) in
-    (start .pre, (not-under x (N p (a .author) 0) (low-as refl u (after-is-below .is-below .ensures) (else1 .if1 .left)), subst (λ (n : ℕ). x ≤ⁿ N p (a .author) n) e g))
-
-returns-3 : tie.Need-returns-3
-returns-3 c = search needs
+    let l = namesOf (now (start .args .log)) in
+    let back = after-back-of .back-of .ensures .1 ∙ ap (takeBack (start .args .author) l) (after-stand .stand .ensures .1) in
+    gives (c .made .result) back (c .made .ensures)
 
 pub take-back-name-spec : {M : Type 1} → statement M
 take-back-name-spec =
     tie.close
     (tie.spec
-    first-position-requires
-    lead-requires
-    is-below-requires
-    name-of-requires
-    strip-below-requires
-    under-requires
-    returns
-    sub-last
-    numbered-requires
-    is-above-requires
-    name-of-requires-2
-    strip-above-requires
-    over-requires
-    returns-2
-    back-within-requires
-    returns-3)
+    slice-aggregate-stand
+    stand-requires
+    slice-aggregate-back-of
+    back-of-requires
+    slice-aggregate-made
+    made-requires
+    returns)

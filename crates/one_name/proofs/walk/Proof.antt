@@ -1,7 +1,7 @@
 -- `one_name::walk` meets its contract. Assumes nothing.
 use mathlib.Core.Path.{_∙_, sym, ap}
 use denote.Ref.{now}
-use Rattle.names.specs.Names.{rowOf}
+use Rattle.slots.specs.Tuples.{rowAt}
 use Rattle.pages.specs.Pages.{namesOf}
 use Rattle.one_name.proofs.CheckedLog.{logged}
 use Rattle.one_name.proofs.PlaceInLog.{index, index-is}
@@ -12,13 +12,10 @@ use Rattle.one_name.proofs.walk.Tie as tie
 place-from-requires : tie.Need-place-from-requires
 place-from-requires c κs =
     let start : tie.Start = search needs in
-    (logged (now (start .args .log)) (start .pre .0) .risen, start .pre .1)
+    (logged (now (start .args .log)) (start .pre .0) .risen, start .pre .1, start .pre .2)
 
 case-at-requires : tie.Need-case-at-requires
 case-at-requires c κs = search needs
-
-renamed-by-requires : tie.Need-renamed-by-requires
-renamed-by-requires c κs = search needs
 
 enum-known-place : tie.Need-enum-known-place
 enum-known-place c = search needs
@@ -31,24 +28,22 @@ returns c =
     let start : tie.Start = search needs in
     let after-place-from : tie.After-place-from = search needs in
     let after-case-at : tie.After-case-at = search needs in
-    let after-renamed-by : tie.After-renamed-by = search needs in
     let after-place : tie.After-place = search needs in
-    let x = rowOf (start .args .x) in
+    let x = rowAt (now (start .args .s)) (start .args .x) in
     let l = namesOf (now (start .args .log)) in
     let k = ap index (sym (after-place .place .given .1) ∙ after-place-from .place-from .ensures) ∙ index-is x l in
-    ((k, after-case-at .case-at .ensures), after-renamed-by .renamed-by .ensures)
+    (k, after-case-at .case-at .ensures)
 
 returns-2 : tie.Need-returns-2
 returns-2 c =
     let start : tie.Start = search needs in
     let after-place-from : tie.After-place-from = search needs in
     let after-case-at : tie.After-case-at = search needs in
-    let after-renamed-by : tie.After-renamed-by = search needs in
     let after-place2 : tie.After-place2 = search needs in
-    let x = rowOf (start .args .x) in
+    let x = rowAt (now (start .args .s)) (start .args .x) in
     let l = namesOf (now (start .args .log)) in
     let k = ap index (sym (after-place2 .place2 .given .1) ∙ after-place-from .place-from .ensures) ∙ index-is x l in
-    ((k, after-case-at .case-at .ensures), after-renamed-by .renamed-by .ensures)
+    (k, after-case-at .case-at .ensures)
 
 pub walk-spec : {M : Type 1} → statement M
 walk-spec =
@@ -56,7 +51,6 @@ walk-spec =
     (tie.spec
     place-from-requires
     case-at-requires
-    renamed-by-requires
     enum-known-place
     enum-known-place-2
     returns

@@ -1,7 +1,7 @@
 -- `page_renames::all_renamed_fit` meets its contract. Assumes nothing.
 use mathlib.Core.Path.{_≡_, refl, _∙_, sym, ap, subst}
 use mathlib.Core.List.{List, [], map}
-use Prim.Native.Nat.{_-_, _*_, _/_, _<_, _≤_}
+use Prim.Native.Nat.{_-_, _/_, _<_, _≤_}
 use native.Mathlib.Omega.{arith}
 use borrow.Author.Tests.{not-true, not-false}
 use denote.Ref.{now}
@@ -14,9 +14,8 @@ use Rattle.numbers.specs.Lists.{every}
 use Rattle.slots.specs.Slots.{slotSize}
 use Rattle.pages.specs.Pages.{namesOf}
 use Rattle.pages.specs.Places.{below}
-use Rattle.pages.proofs.SlotBySlot.{lent-length}
 use Rattle.name_renames.specs.Renaming.{rename}
-use Rattle.page_renames.proofs.PageWalk.{name-lent, result-at, walked, results-end}
+use Rattle.page_renames.proofs.PageWalk.{result-at, walked, results-end}
 use Rattle.page_renames.proofs.all_renamed_fit.Statement.{statement}
 use borrow.Author.Needs.{needs}
 use Rattle.page_renames.proofs.all_renamed_fit.Tie as tie
@@ -38,32 +37,16 @@ abbrev μ-loop : tie.MeasureT-loop
 loop-holds : tie.Need-loop-holds Inv-loop μ-loop
 loop-holds c = (refl, omega arith, refl, λ h. omega arith)
 
-mul-at : tie.Need-mul-at Inv-loop μ-loop
-mul-at c = omega arith
-
-add-end : tie.Need-add-end Inv-loop μ-loop
-add-end c = omega arith
-
-sub-renamed-fits : tie.Need-sub-renamed-fits Inv-loop μ-loop
-sub-renamed-fits c = omega arith
-
-part-renamed-fits-start : tie.Need-part-renamed-fits-start Inv-loop μ-loop
-part-renamed-fits-start c = omega arith
-
-part-renamed-fits-end : tie.Need-part-renamed-fits-end Inv-loop μ-loop
-part-renamed-fits-end c = omega arith
+span-of-requires : tie.Need-span-of-requires Inv-loop μ-loop
+span-of-requires c κs = search needs
 
 renamed-fits-requires : tie.Need-renamed-fits-requires Inv-loop μ-loop
 renamed-fits-requires c κs =
     let start : tie.Start Inv-loop μ-loop = search needs in
     let at-loop : tie.At-loop Inv-loop μ-loop = search needs in
-    let s = now (start .args .page) in
     let l = namesOf (now (start .args .log)) in
-    let i = at-loop .loop .i in
-    let h : i < length s / slotSize = omega arith in
-    let long = lent-length s (length s / slotSize) i (slotSize * i) refl h refl in
-    let known = subst (λ (a : Row). at-loop .loop .j ≤ below a l) (sym (name-lent s i h)) (at-loop .loop .inv .3 (omega arith)) in
-    (start .pre .1, long, known)
+    let x = c .span-of .ensures in
+    (start .pre .1, x .0, subst (λ (a : Row). at-loop .loop .j ≤ below a l) (sym (x .1)) (at-loop .loop .inv .3 (omega arith)))
 
 add-i : tie.Need-add-i Inv-loop μ-loop
 add-i c = omega arith
@@ -76,6 +59,8 @@ loop-again c =
     let start : tie.Start Inv-loop μ-loop = search needs in
     let at-loop : tie.At-loop Inv-loop μ-loop = search needs in
     let after-renamed-fits : tie.After-renamed-fits Inv-loop μ-loop = search needs in
+    let after-span-of : tie.After-span-of Inv-loop μ-loop = search needs in
+    let name = after-span-of .span-of .ensures .1 in
     let s = now (start .args .page) in
     let l = namesOf (now (start .args .log)) in
     let f = rename (start .args .author) l in
@@ -83,8 +68,8 @@ loop-again c =
     let h : i < length s / slotSize = omega arith in
     let else2 : tie.Else2 Inv-loop μ-loop = search needs in
     let r = after-renamed-fits .renamed-fits in
-    let e = r .ensures .0 ∙ ap (λ (a : Row). fits (f a)) (name-lent s i h) in
-    let b = subst (λ (a : Row). r .result .below ≤ below a l) (name-lent s i h) (r .ensures .1) in
+    let e = r .ensures .0 ∙ ap (λ (a : Row). fits (f a)) name in
+    let b = subst (λ (a : Row). r .result .below ≤ below a l) name (r .ensures .1) in
     let turn = result-at s i h f fits (sym (not-false (r .result .fits) (else2 .if2 .left)) ∙ e) in
     (refl, omega arith, turn ∙ at-loop .loop .inv .2, walked s i h l (r .result .below) (start .pre .0) b)
 
@@ -100,12 +85,14 @@ returns-2 c =
     let start : tie.Start Inv-loop μ-loop = search needs in
     let at-loop : tie.At-loop Inv-loop μ-loop = search needs in
     let after-renamed-fits : tie.After-renamed-fits Inv-loop μ-loop = search needs in
+    let after-span-of : tie.After-span-of Inv-loop μ-loop = search needs in
+    let name = after-span-of .span-of .ensures .1 in
     let s = now (start .args .page) in
     let f = rename (start .args .author) (namesOf (now (start .args .log))) in
     let i = at-loop .loop .i in
     let h : i < length s / slotSize = omega arith in
     let r = after-renamed-fits .renamed-fits in
-    let e = r .ensures .0 ∙ ap (λ (a : Row). fits (f a)) (name-lent s i h) in
+    let e = r .ensures .0 ∙ ap (λ (a : Row). fits (f a)) name in
     result-at s i h f fits (sym (not-true (r .result .fits) (c .if2 .taken)) ∙ e) ∙ at-loop .loop .inv .2
 
 pub all-renamed-fit-spec : {M : Type 1} → statement M
@@ -115,11 +102,7 @@ all-renamed-fit-spec =
     Inv-loop
     μ-loop
     loop-holds
-    mul-at
-    add-end
-    sub-renamed-fits
-    part-renamed-fits-start
-    part-renamed-fits-end
+    span-of-requires
     renamed-fits-requires
     add-i
     loop-less

@@ -9,8 +9,9 @@ use denote.Ref.{now}
 use lib.ListN.{length, getD, drop}
 use Rattle.names.specs.declared.Author.{Author}
 use Rattle.names.specs.Ordering.{Row, rising}
-use Rattle.names.specs.Names.{rowOf, fits, fitted}
+use Rattle.names.specs.Names.{rowOf, fits, Gives}
 use Rattle.name_values.proofs.JoinedRows.{row-of}
+use Rattle.name_values.proofs.GivenRows.{gives}
 use Rattle.numbers.specs.Bytes.{Bytes}
 use Rattle.numbers.specs.Lists.{every}
 use Rattle.slots.specs.Slots.{slotSize}
@@ -61,13 +62,18 @@ loop-holds c =
 check-rising-requires : tie.Need-check-rising-requires Inv-loop μ-loop
 check-rising-requires c κs = search needs
 
-name-of-requires : tie.Need-name-of-requires Inv-loop μ-loop
-name-of-requires c κs = search needs
+span-of-requires : tie.Need-span-of-requires Inv-loop μ-loop
+span-of-requires c κs = search needs
 
-take-back-name-requires : tie.Need-take-back-name-requires Inv-loop μ-loop
-take-back-name-requires c κs =
+back-of-requires : tie.Need-back-of-requires Inv-loop μ-loop
+back-of-requires c κs =
     let start : tie.Start Inv-loop μ-loop = search needs in
-    asked (now (start .args .page)) (now (start .args .log)) (start .args .author) (start .pre) .logged
+    (asked (now (start .args .page)) (now (start .args .log)) (start .args .author) (start .pre) .logged, c .span-of .ensures .0)
+
+made-requires : tie.Need-made-requires Inv-loop μ-loop
+made-requires c κs =
+    let start : tie.Start Inv-loop μ-loop = search needs in
+    (asked (now (start .args .page)) (now (start .args .log)) (start .args .author) (start .pre) .logged, c .back-of .ensures .0)
 
 still-rises-requires : tie.Need-still-rises-requires Inv-loop μ-loop
 still-rises-requires c κs = search needs
@@ -82,8 +88,9 @@ loop-again : tie.Need-loop-again Inv-loop μ-loop
 loop-again c =
     let start : tie.Start Inv-loop μ-loop = search needs in
     let at-loop : tie.At-loop Inv-loop μ-loop = search needs in
-    let after-name-of : tie.After-name-of Inv-loop μ-loop = search needs in
-    let after-take-back-name : tie.After-take-back-name Inv-loop μ-loop = search needs in
+    let after-span-of : tie.After-span-of Inv-loop μ-loop = search needs in
+    let after-back-of : tie.After-back-of Inv-loop μ-loop = search needs in
+    let after-made : tie.After-made Inv-loop μ-loop = search needs in
     let else2 : tie.Else2 Inv-loop μ-loop = search needs in
     let s = now (start .args .page) in
     let l = namesOf (now (start .args .log)) in
@@ -91,11 +98,10 @@ loop-again c =
     let i = at-loop .loop .i in
     let h : i < length s / slotSize = omega arith in
     let y = f (getD (namesOf s) i []) in
-    let read = after-name-of .name-of .ensures in
-    let back = after-take-back-name .take-back-name in
-    let e = back .ensures .0 ∙ ap (λ (a : Row). fits (f a)) read in
-    let w = sym e ∙ not-false (back .result .fits) (else2 .if2 .left) in
-    let m : rowOf (back .result .name) ≡ y = back .ensures .1 ∙ ap (λ (a : Row). fitted (f a)) read ∙ ap (λ (b : Bool). cond b y []) w in
+    let back = after-made .made in
+    let given : Gives (back .result) y = gives (back .result) (after-back-of .back-of .ensures .1 ∙ ap f (after-span-of .span-of .ensures .1)) (back .ensures) in
+    let w = sym (given .0) ∙ not-false (back .result .fits) (else2 .if2 .left) in
+    let m : rowOf (back .result .name) ≡ y = given .1 ∙ ap (λ (b : Bool). cond b y []) w in
     let before = rowOf (at-loop .loop .last) in
     let turn = rising-turn s i h f (at-loop .loop .rises) (c .still-rises .result) before (rowOf (back .result .name)) m (c .still-rises .ensures) in
     (refl, omega arith, result-at s i h f fits (sym w) ∙ at-loop .loop .inv .2, turn ∙ at-loop .loop .inv .3)
@@ -116,16 +122,17 @@ returns-2 : tie.Need-returns-2 Inv-loop μ-loop
 returns-2 c =
     let start : tie.Start Inv-loop μ-loop = search needs in
     let at-loop : tie.At-loop Inv-loop μ-loop = search needs in
-    let after-name-of : tie.After-name-of Inv-loop μ-loop = search needs in
-    let after-take-back-name : tie.After-take-back-name Inv-loop μ-loop = search needs in
+    let after-span-of : tie.After-span-of Inv-loop μ-loop = search needs in
+    let after-back-of : tie.After-back-of Inv-loop μ-loop = search needs in
+    let after-made : tie.After-made Inv-loop μ-loop = search needs in
     let s = now (start .args .page) in
     let l = namesOf (now (start .args .log)) in
     let f = takeBack (start .args .author) l in
     let i = at-loop .loop .i in
     let h : i < length s / slotSize = omega arith in
-    let back = after-take-back-name .take-back-name in
-    let e = back .ensures .0 ∙ ap (λ (a : Row). fits (f a)) (after-name-of .name-of .ensures) in
-    let t = result-at s i h f fits (sym (not-true (back .result .fits) (c .if2 .taken)) ∙ e) ∙ at-loop .loop .inv .2 in
+    let back = after-made .made in
+    let given : Gives (back .result) (f (getD (namesOf s) i [])) = gives (back .result) (after-back-of .back-of .ensures .1 ∙ ap f (after-span-of .span-of .ensures .1)) (back .ensures) in
+    let t = result-at s i h f fits (sym (not-true (back .result .fits) (c .if2 .taken)) ∙ given .0) ∙ at-loop .loop .inv .2 in
     stops (takeBackTests s (now (start .args .log)) (start .args .author)) (here (sym t) refl)
 
 pub check-back-spec : {M : Type 1} → statement M
@@ -137,8 +144,9 @@ check-back-spec =
     empty-requires
     loop-holds
     check-rising-requires
-    name-of-requires
-    take-back-name-requires
+    span-of-requires
+    back-of-requires
+    made-requires
     still-rises-requires
     add-i
     loop-less

@@ -1,16 +1,17 @@
 -- `page_renames::write_back` meets its contract. Assumes nothing.
-use mathlib.Core.Path.{_≡_, refl, _∙_, ap}
+use mathlib.Core.Path.{_≡_, refl, _∙_, sym, ap}
 use Prim.Native.Nat.{_-_, _*_, _/_, _<_, _≤_}
 use native.Mathlib.Omega.{arith}
 use denote.Ref.{now}
 use lib.ListN.{length}
 use Rattle.names.specs.Ordering.{Row}
-use Rattle.names.specs.Names.{rowOf}
+use Rattle.name_values.proofs.GivenRows.{gives}
 use Rattle.numbers.specs.Bytes.{put}
 use Rattle.slots.specs.Slots.{slotSize, lineOf, slotBytes}
 use Rattle.pages.specs.Pages.{namesOf}
 use Rattle.pages.proofs.SlotBySlot.{lent, lent-length}
 use Rattle.name_renames.specs.Renaming.{takeBack}
+use Rattle.page_renames.proofs.PageWalk.{name-lent}
 use Rattle.page_renames.proofs.SlotBySlot.{standing, standing-first, standing-last, standing-on, same-room, name-made}
 use borrow.Author.Needs.{needs}
 use Rattle.page_renames.proofs.write_back.Statement.{statement}
@@ -35,25 +36,18 @@ mul-at c = omega arith
 add-end : tie.Need-add-end Inv-loop μ-loop
 add-end c = omega arith
 
-sub-read-name : tie.Need-sub-read-name Inv-loop μ-loop
-sub-read-name c = omega arith
+span-of-requires : tie.Need-span-of-requires Inv-loop μ-loop
+span-of-requires c κs = search needs
 
-part-read-name-start : tie.Need-part-read-name-start Inv-loop μ-loop
-part-read-name-start c = omega arith
-
-part-read-name-end : tie.Need-part-read-name-end Inv-loop μ-loop
-part-read-name-end c = omega arith
-
-read-name-requires : tie.Need-read-name-requires Inv-loop μ-loop
-read-name-requires c κs =
+back-of-requires : tie.Need-back-of-requires Inv-loop μ-loop
+back-of-requires c κs =
     let start : tie.Start Inv-loop μ-loop = search needs in
-    let at-loop : tie.At-loop Inv-loop μ-loop = search needs in
-    let s = now (start .args .page) in
-    let i = at-loop .loop .i in
-    lent-length s (length s / slotSize) i (slotSize * i) refl (omega arith) refl
+    (start .pre .0 .0, c .span-of .ensures .0)
 
-take-back-name-requires : tie.Need-take-back-name-requires Inv-loop μ-loop
-take-back-name-requires c κs = search needs
+made-requires : tie.Need-made-requires Inv-loop μ-loop
+made-requires c κs =
+    let start : tie.Start Inv-loop μ-loop = search needs in
+    (start .pre .0 .0, c .back-of .ensures .0)
 
 sub-carry : tie.Need-sub-carry Inv-loop μ-loop
 sub-carry c = omega arith
@@ -83,8 +77,9 @@ loop-again : tie.Need-loop-again Inv-loop μ-loop
 loop-again c =
     let start : tie.Start Inv-loop μ-loop = search needs in
     let at-loop : tie.At-loop Inv-loop μ-loop = search needs in
-    let after-read-name : tie.After-read-name Inv-loop μ-loop = search needs in
-    let after-take-back-name : tie.After-take-back-name Inv-loop μ-loop = search needs in
+    let after-span-of : tie.After-span-of Inv-loop μ-loop = search needs in
+    let after-back-of : tie.After-back-of Inv-loop μ-loop = search needs in
+    let after-made : tie.After-made Inv-loop μ-loop = search needs in
     let after-carry : tie.After-carry Inv-loop μ-loop = search needs in
     let s = now (start .args .page) in
     let l = namesOf (now (start .args .log)) in
@@ -94,10 +89,10 @@ loop-again c =
     let h : i < length s / slotSize = omega (arith, in-loop .loop-test .taken, at-loop .loop .inv .0) in
     let o = at-loop .loop .out in
     let d = lent s (slotSize * i) in
-    let read = after-read-name .read-name in
-    let back = after-take-back-name .take-back-name in
+    let name = after-span-of .span-of .ensures .1 in
+    let back = gives (after-made .made .result) (after-back-of .back-of .ensures .1) (after-made .made .ensures) in
     let next = after-carry .carry .last .1 .1 .0 in
-    let m = name-made f s i h (start .pre .1) (back .result) (rowOf (read .result)) (read .ensures) (back .ensures) in
+    let m = name-made f s i h (start .pre .1) (after-made .made .result) _ (name ∙ sym (name-lent s i h)) back in
     let e = after-carry .carry .ensures ∙ ap (λ (a : Row). put o (slotSize * i) (slotBytes (record { line = lineOf d; name = a }))) m in
     let r : length s ≤ length o = omega (arith, at-loop .loop .inv .2) in
     let room = same-room f s i h (start .pre .1) o next r e ∙ at-loop .loop .inv .2 in
@@ -127,11 +122,9 @@ write-back-spec =
     loop-holds
     mul-at
     add-end
-    sub-read-name
-    part-read-name-start
-    part-read-name-end
-    read-name-requires
-    take-back-name-requires
+    span-of-requires
+    back-of-requires
+    made-requires
     sub-carry
     part-carry-start
     part-carry-end

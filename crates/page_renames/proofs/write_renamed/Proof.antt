@@ -6,7 +6,6 @@ use native.Mathlib.Omega.{arith}
 use denote.Ref.{now}
 use lib.ListN.{length, getD}
 use Rattle.names.specs.Ordering.{Row}
-use Rattle.names.specs.Names.{rowOf}
 use Rattle.numbers.specs.Bytes.{put}
 use Rattle.slots.specs.Slots.{slotSize, lineOf, slotBytes}
 use Rattle.pages.specs.Pages.{namesOf}
@@ -39,33 +38,22 @@ mul-at c = omega arith
 add-end : tie.Need-add-end Inv-loop μ-loop
 add-end c = omega arith
 
-sub-read-name : tie.Need-sub-read-name Inv-loop μ-loop
-sub-read-name c = omega arith
-
-part-read-name-start : tie.Need-part-read-name-start Inv-loop μ-loop
-part-read-name-start c = omega arith
-
-part-read-name-end : tie.Need-part-read-name-end Inv-loop μ-loop
-part-read-name-end c = omega arith
-
-read-name-requires : tie.Need-read-name-requires Inv-loop μ-loop
-read-name-requires c κs =
-    let start : tie.Start Inv-loop μ-loop = search needs in
-    let at-loop : tie.At-loop Inv-loop μ-loop = search needs in
-    let s = now (start .args .page) in
-    let i = at-loop .loop .i in
-    lent-length s (length s / slotSize) i (slotSize * i) refl (omega arith) refl
+span-of-requires : tie.Need-span-of-requires Inv-loop μ-loop
+span-of-requires c κs = search needs
 
 walk-requires : tie.Need-walk-requires Inv-loop μ-loop
 walk-requires c κs =
     let start : tie.Start Inv-loop μ-loop = search needs in
     let at-loop : tie.At-loop Inv-loop μ-loop = search needs in
-    let s = now (start .args .page) in
     let l = namesOf (now (start .args .log)) in
-    let i = at-loop .loop .i in
-    let h : i < length s / slotSize = omega arith in
-    let read = c .read-name .ensures ∙ name-lent s i h in
-    (start .pre .0 .1, subst (λ (a : Row). at-loop .loop .j ≤ below a l) (sym read) (at-loop .loop .inv .4 (omega arith)))
+    let x = c .span-of .ensures in
+    (start .pre .0 .1, x .0, subst (λ (a : Row). at-loop .loop .j ≤ below a l) (sym (x .1)) (at-loop .loop .inv .4 (omega arith)))
+
+renamed-by-requires : tie.Need-renamed-by-requires Inv-loop μ-loop
+renamed-by-requires c κs =
+    let after-span-of : tie.After-span-of Inv-loop μ-loop = search needs in
+    let start : tie.Start Inv-loop μ-loop = search needs in
+    (start .pre .0 .1, after-span-of .span-of .ensures .0, c .walk .ensures .1)
 
 sub-carry : tie.Need-sub-carry Inv-loop μ-loop
 sub-carry c = omega arith
@@ -95,8 +83,9 @@ loop-again : tie.Need-loop-again Inv-loop μ-loop
 loop-again c =
     let start : tie.Start Inv-loop μ-loop = search needs in
     let at-loop : tie.At-loop Inv-loop μ-loop = search needs in
-    let after-read-name : tie.After-read-name Inv-loop μ-loop = search needs in
+    let after-span-of : tie.After-span-of Inv-loop μ-loop = search needs in
     let after-walk : tie.After-walk Inv-loop μ-loop = search needs in
+    let after-renamed-by : tie.After-renamed-by Inv-loop μ-loop = search needs in
     let after-carry : tie.After-carry Inv-loop μ-loop = search needs in
     let s = now (start .args .page) in
     let l = namesOf (now (start .args .log)) in
@@ -106,16 +95,16 @@ loop-again c =
     let h : i < length s / slotSize = omega (arith, in-loop .loop-test .taken, at-loop .loop .inv .0) in
     let o = at-loop .loop .out in
     let d = lent s (slotSize * i) in
-    let read = after-read-name .read-name in
+    let name = after-span-of .span-of .ensures .1 in
     let w = after-walk .walk in
     let next = after-carry .carry .last .1 .1 .0 in
-    let m = name-made f s i h (start .pre .1) (w .result .renamed) (rowOf (read .result)) (read .ensures) (w .ensures .1) in
+    let m = name-made f s i h (start .pre .1) (after-renamed-by .renamed-by .result) _ (name ∙ sym (name-lent s i h)) (after-renamed-by .renamed-by .ensures) in
     let e = after-carry .carry .ensures ∙ ap (λ (a : Row). put o (slotSize * i) (slotBytes (record { line = lineOf d; name = a }))) m in
     let r : length s ≤ length o = omega (arith, at-loop .loop .inv .2) in
     let room = same-room f s i h (start .pre .1) o next r e ∙ at-loop .loop .inv .2 in
     let stands = standing-on f s i h (start .pre .1) o next r e ∙ at-loop .loop .inv .3 in
-    let q : w .result .below ≤ below (rowOf (read .result)) l = let p = w .ensures .0 .0 in omega arith in
-    let b = subst (λ (a : Row). w .result .below ≤ below a l) (read .ensures ∙ name-lent s i h) q in
+    let p = w .ensures .0 ∙ ap (λ (a : Row). below a l) name in
+    let b : w .result .below ≤ below (getD (namesOf s) i []) l = omega arith in
     (refl, omega arith, room, stands, walked s i h l (w .result .below) (start .pre .0 .0) b)
 
 same-length : tie.Need-same-length Inv-loop μ-loop
@@ -141,11 +130,9 @@ write-renamed-spec =
     loop-holds
     mul-at
     add-end
-    sub-read-name
-    part-read-name-start
-    part-read-name-end
-    read-name-requires
+    span-of-requires
     walk-requires
+    renamed-by-requires
     sub-carry
     part-carry-start
     part-carry-end

@@ -1,0 +1,150 @@
+-- `one_name::back_of` meets its contract. Assumes nothing.
+use mathlib.Core.Path.{_≡_, refl, _∙_, sym, ap, subst}
+use mathlib.Core.Bool.{Bool}
+use mathlib.Core.List.{[], _∷_}
+use Prim.Native.Nat.{ℕ, suc, _-_, _/_}
+use native.Mathlib.Omega.{arith}
+use denote.Ref.{now}
+use lib.IntN.{pos}
+use lib.ListN.{length, getD}
+use Rattle.names.specs.declared.Tuple.{Tuple}
+use Rattle.names.specs.Ordering.{Row, compareRows, isLess, _≤ⁿ_}
+use Rattle.slots.specs.Tuples.{rowAt}
+use Rattle.slots.specs.Slots.{slotSize}
+use Rattle.pages.specs.Pages.{namesOf}
+use Rattle.name_renames.specs.Renaming.{firstPosition, lead, N, under, over, stripBelow, stripAbove}
+use Rattle.names.proofs.TestedOrder.{is-under, not-under}
+use Rattle.name_renames.proofs.ByTest.{low-as}
+use Rattle.name_renames.proofs.BackByIndex.{back-under, back-over}
+use Rattle.one_name.proofs.CheckedLog.{logged}
+use borrow.Author.Needs.{needs}
+use Rattle.one_name.proofs.back_of.Statement.{statement}
+use Rattle.one_name.proofs.back_of.Tie as tie
+
+above-as : (x : Row) {u v : Tuple} {b r : Bool} → u ≡ v → r ≡ isLess (compareRows (u ∷ []) x) → r ≡ b → isLess (compareRows (v ∷ []) x) ≡ b
+above-as x d f g = sym (ap (λ (t : Tuple). isLess (compareRows (t ∷ []) x)) d) ∙ sym f ∙ g
+
+first-position-requires : tie.Need-first-position-requires
+first-position-requires c κs = search needs
+
+lead-requires : tie.Need-lead-requires
+lead-requires c κs = search needs
+
+is-below-requires : tie.Need-is-below-requires
+is-below-requires c κs = search needs
+
+strip-below-requires : tie.Need-strip-below-requires
+strip-below-requires c κs = search needs
+
+under-requires : tie.Need-under-requires
+under-requires c κs =
+    let start : tie.Start = search needs in
+    (omega (arith, logged (now (start .args .log)) (start .pre .0) .some), c .strip-below .ensures .0)
+
+returns : tie.Need-returns
+returns c =
+    let start : tie.Start = search needs in
+    let after-first-position : tie.After-first-position = search needs in
+    let after-lead : tie.After-lead = search needs in
+    let after-is-below : tie.After-is-below = search needs in
+    let then1 : tie.Then1 = search needs in
+    let after-strip-below : tie.After-strip-below = search needs in
+    let a = start .args in
+    let log = now (a .log) in
+    let l = logged log (start .pre .0) in
+    let p = firstPosition (namesOf log) in
+    let x = rowAt (now (a .s)) (a .c) in
+    let u = after-lead .lead .ensures ∙ ap (λ (n : ℕ). lead n (a .author) (pos 0)) (after-first-position .first-position .ensures) in
+    let h = is-under x (N p (a .author) 0) (low-as refl u (after-is-below .is-below .ensures) (then1 .if1 .taken)) in
+    let v = after-strip-below .strip-below .ensures .1 ∙ ap (λ (n : ℕ). stripBelow n (a .author) x) (after-first-position .first-position .ensures) in
+    (c .under .ensures .0, c .under .ensures .1 ∙ ap (under (getD (namesOf log) 0 [])) v ∙ back-under (a .author) x (namesOf log) (l .some) h)
+
+sub-last : tie.Need-sub-last
+sub-last c =
+    let start : tie.Start = search needs in
+    let l = logged (now (start .args .log)) (start .pre .0) in
+    omega (arith, l .some, l .count)
+
+numbered-requires : tie.Need-numbered-requires
+numbered-requires c κs =
+    let start : tie.Start = search needs in
+    let l = logged (now (start .args .log)) (start .pre .0) in
+    omega (arith, l .some, l .few, l .count)
+
+is-above-requires : tie.Need-is-above-requires
+is-above-requires c κs = search needs
+
+strip-above-requires : tie.Need-strip-above-requires
+strip-above-requires c κs =
+    let start : tie.Start = search needs in
+    let l = logged (now (start .args .log)) (start .pre .0) in
+    (omega (arith, l .some, l .few, l .count), start .pre .1)
+
+over-requires : tie.Need-over-requires
+over-requires c κs =
+    let start : tie.Start = search needs in
+    let l = logged (now (start .args .log)) (start .pre .0) in
+    (omega (arith, l .some, l .count), c .strip-above .ensures .0)
+
+returns-2 : tie.Need-returns-2
+returns-2 c =
+    let start : tie.Start = search needs in
+    let after-first-position : tie.After-first-position = search needs in
+    let after-numbered : tie.After-numbered = search needs in
+    let after-is-above : tie.After-is-above = search needs in
+    let then2 : tie.Then2 = search needs in
+    let after-strip-above : tie.After-strip-above = search needs in
+    let a = start .args in
+    let log = now (a .log) in
+    let l = logged log (start .pre .0) in
+    let p = firstPosition (namesOf log) in
+    let x = rowAt (now (a .s)) (a .c) in
+    let k = length log / slotSize - 1 in
+    let d = after-numbered .numbered .ensures ∙ ap (λ (n : ℕ). lead n (a .author) (pos k)) (after-first-position .first-position .ensures) in
+    let e : suc k ≡ length (namesOf log) = omega (arith, l .some, l .count) in
+    let h = is-under (N p (a .author) k) x (above-as x d (after-is-above .is-above .ensures) (then2 .if2 .taken)) in
+    let v = after-strip-above .strip-above .ensures .1 ∙ ap (λ (n : ℕ). stripAbove n (a .author) k x) (after-first-position .first-position .ensures) in
+    (c .over .ensures .0, c .over .ensures .1 ∙ (λ i. over (getD (namesOf log) k []) (v i) (v i)) ∙ back-over (a .author) x (namesOf log) k e h)
+
+back-within-requires : tie.Need-back-within-requires
+back-within-requires c κs =
+    let start : tie.Start = search needs in
+    let after-first-position : tie.After-first-position = search needs in
+    let after-lead : tie.After-lead = search needs in
+    let after-is-below : tie.After-is-below = search needs in
+    let else1 : tie.Else1 = search needs in
+    let after-numbered : tie.After-numbered = search needs in
+    let after-is-above : tie.After-is-above = search needs in
+    let a = start .args in
+    let log = now (a .log) in
+    let l = logged log (start .pre .0) in
+    let p = firstPosition (namesOf log) in
+    let x = rowAt (now (a .s)) (a .c) in
+    let u = after-lead .lead .ensures ∙ ap (λ (n : ℕ). lead n (a .author) (pos 0)) (after-first-position .first-position .ensures) in
+    let k = length log / slotSize - 1 in
+    let d = after-numbered .numbered .ensures ∙ ap (λ (n : ℕ). lead n (a .author) (pos k)) (after-first-position .first-position .ensures) in
+    let e : k ≡ length (namesOf log) - 1 = omega (arith, l .count) in
+    let g : x ≤ⁿ N p (a .author) k = not-under (N p (a .author) k) x (above-as x d (after-is-above .is-above .ensures) (c .if2 .left)) in
+    (start .pre, (not-under x (N p (a .author) 0) (low-as refl u (after-is-below .is-below .ensures) (else1 .if1 .left)), subst (λ (n : ℕ). x ≤ⁿ N p (a .author) n) e g))
+
+returns-3 : tie.Need-returns-3
+returns-3 c = search needs
+
+pub back-of-spec : {M : Type 1} → statement M
+back-of-spec =
+    tie.close
+    (tie.spec
+    first-position-requires
+    lead-requires
+    is-below-requires
+    strip-below-requires
+    under-requires
+    returns
+    sub-last
+    numbered-requires
+    is-above-requires
+    strip-above-requires
+    over-requires
+    returns-2
+    back-within-requires
+    returns-3)
