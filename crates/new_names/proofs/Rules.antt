@@ -4,7 +4,7 @@ use mathlib.Core.Logic.{_⊎_, inl, inr}
 use mathlib.Core.List.{[], _∷_, _++_}
 use mathlib.Core.Option.{Option, none, some}
 use mathlib.Core.Bool.{Bool, true, false, cond}
-use Prim.Native.Nat.{_+_, _-_, _/_, _<_, _≤_}
+use Prim.Native.Nat.{ℕ, _+_, _/_, _<_, _≤_}
 use native.Mathlib.Nat.{not-suc-le-zero}
 use native.Mathlib.Omega.{arith}
 use borrow.Author.Tests.{le-leb, lt-leb, eq-eqb, ne-eqb}
@@ -59,13 +59,15 @@ module _ (author : Author) (a b : Row) where
   unfolding closeBy
   close-short h = elim (no-rest a b h) [ inl e ↦ rw e | inr e ↦ rw e ]
 
-  pub close-apart : rest a b ≡ none → some (a ++ (own author 32768 ∷ [])) ≡ closeBy author a (rest a b)
-  unfolding closeBy
-  close-apart e = rw e
+  -- r tells whether a is a prefix of b, and then b's tuples from number n on follow it
+  module _ (n : ℕ) {r : Bool} (e : rest a b ≡ cond r (some (drop n b)) none) where
+    pub close-apart : r ≡ false → some (a ++ (own author 32768 ∷ [])) ≡ closeBy author a (rest a b)
+    unfolding closeBy
+    close-apart f = rw (e, f)
 
-  pub close-before : rest a b ≡ some (drop (length a) b) → length a < length b → beforeTuple author a (getD b (length a) m) ≡ closeBy author a (rest a b)
-  unfolding closeBy
-  close-before e h = rw (e, drop-cons b (length a) m h)
+    pub close-before : {y : Tuple} → r ≡ true → n < length b → y ≡ getD b n m → beforeTuple author a y ≡ closeBy author a (rest a b)
+    unfolding closeBy
+    close-before f h g = rw (e, f, drop-cons b n m h, g)
 
   -- ── by first positions ──
 

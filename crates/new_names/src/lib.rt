@@ -1,11 +1,13 @@
-// New names: a name for a gap of a page. Document 01, "New names"; the definitions are in specs/.
+// New names: a name for a gap of a page, whose neighbours are looked at where they stand. Document 01, "New names"; the
+// definitions are in specs/.
 ghost use mathlib.Core.Path.{_≡_};
 ghost use mathlib.Core.List.{[], _∷_, _++_};
 ghost use mathlib.Core.Option.{none, some};
 ghost use mathlib.Core.Bool.{true, cond};
-ghost use Prim.Native.Nat.{_≤_};
+ghost use Prim.Native.Nat.{_+_, _*_, _≤_};
 ghost use lib.ListN.{length, drop};
-ghost use Rattle.names.specs.Names.{rowOf, valueOf};
+ghost use Rattle.names.specs.Names.{limit, rowOf, valueOf};
+ghost use Rattle.slots.specs.Tuples.{tupleSize, tuplesAt};
 ghost use Rattle.pages.specs.Pages.{namesOf};
 ghost use Rattle.new_names.specs.NewNames.{firstBefore, firstAfter, rest, own as ownTuple, beforeTuple, closeBy, newName, nameBefore, refuseName, answerName, newNameOutcome, Says};
 use answers::Answer;
@@ -15,6 +17,8 @@ use names::Name;
 use names::Order;
 use names::Tuple;
 use slots::SLOT;
+use slots::Span;
+use slots::TUPLE;
 
 // "First positions count 0 for a missing a and 65535 for a missing b."
 const LOWEST: u32 = 0;
@@ -81,59 +85,53 @@ fn wide(x: u16) -> u32
 }
 
 // The position of a's first tuple; a may be missing.
-fn first_before(a: Name) -> u32
-    ensures { λ r. ⌜ (r ≡ firstBefore (rowOf a)) × (r ≤ 65535) ⌝ }
+fn first_before(page: &[u8], a: Span) -> u32
+    requires { ⌜ a .at + tupleSize * a .count ≤ length (now page) ⌝ }
+    ensures { λ r. ⌜ (r ≡ firstBefore (tuplesAt (now (page .entry)) (a .at) (a .count))) × (r ≤ 65535) ⌝ }
 {
-    if names::tuples_in(a) < 1 {
+    if a.count < 1 {
         return LOWEST;
     }
-    let t = a.tuples;
-    wide(t[0].position)
+    wide(numbers::read_u16(page, a.at))
 }
 
 // The position of b's first tuple; b may be missing.
-fn first_after(b: Name) -> u32
-    ensures { λ r. ⌜ (r ≡ firstAfter (rowOf b)) × (r ≤ 65535) ⌝ }
+fn first_after(page: &[u8], b: Span) -> u32
+    requires { ⌜ b .at + tupleSize * b .count ≤ length (now page) ⌝ }
+    ensures { λ r. ⌜ (r ≡ firstAfter (tuplesAt (now (page .entry)) (b .at) (b .count))) × (r ≤ 65535) ⌝ }
 {
-    if names::tuples_in(b) < 1 {
+    if b.count < 1 {
         return HIGHEST;
     }
-    let t = b.tuples;
-    wide(t[0].position)
+    wide(numbers::read_u16(page, b.at))
 }
 
-// a is a prefix of b: then what follows it are b's tuples from a's length on.
-fn is_prefix(a: Name, b: Name) -> bool
-    ensures { λ r. ⌜ rest (rowOf a) (rowOf b) ≡ cond r (some (drop (length (rowOf a)) (rowOf b))) none ⌝ }
+// a is a prefix of b: of b's tuples the first, as many as a has, are a's. What follows a are then b's tuples from a's count on.
+fn is_prefix(page: &[u8], a: Span, b: Span) -> bool
+    requires { ⌜ (a .at + tupleSize * a .count ≤ length (now page)) × (b .at + tupleSize * b .count ≤ length (now page)) ⌝ }
+    ensures { λ r. ⌜ rest (tuplesAt (now (page .entry)) (a .at) (a .count)) (tuplesAt (now (page .entry)) (b .at) (b .count)) ≡ cond r (some (drop (a .count) (tuplesAt (now (page .entry)) (b .at) (b .count)))) none ⌝ }
 {
-    let s = a.tuples;
-    let t = b.tuples;
-    let n = names::tuples_in(a);
-    let m = names::tuples_in(b);
-    let mut i: usize = 0;
-    loop {
-        if n <= i {
-            break true;
-        }
-        if m <= i {
-            break false;
-        }
-        match names::compare_tuples(s[i], t[i]) {
-            Order::Less => break false,
-            Order::Same => {}
-            Order::More => break false,
-        }
-        i += 1;
+    if b.count < a.count {
+        return false;
+    }
+    match slots::compare_rows(page, a.at, a.count, page, b.at, a.count) {
+        Order::Less => false,
+        Order::Same => true,
+        Order::More => false,
     }
 }
 
 // "If y's position is 2 or more: a·(half that position rounded down, node, sequence, 0). If it is 1 and y's offset is at
 // least 0: a·(y one offset lower)·(32768, node, sequence, 0). Otherwise answer 12."
-fn before_tuple(a: Name, y: Tuple, author: Author) -> NewName
-    ensures { λ r. ⌜ Says r (answerName (beforeTuple author (rowOf a) y)) ⌝ }
+fn before_tuple(page: &[u8], a: Span, y: Tuple, author: Author) -> NewName
+    requires { ⌜ (a .count ≤ limit) × (a .at + tupleSize * a .count ≤ length (now page)) ⌝ }
+    ensures { λ r. ⌜ Says r (answerName (beforeTuple author (tuplesAt (now (page .entry)) (a .at) (a .count)) y)) ⌝ }
 {
     if 2 <= y.position {
-        return extended(a, name_values::one(own(author, y.position / 2)));
+        return extended(
+            slots::read_row(page, a.at, a.count),
+            name_values::one(own(author, y.position / 2)),
+        );
     }
     if y.position != 1 {
         return refused(Refusal::NoNewName);
@@ -141,37 +139,47 @@ fn before_tuple(a: Name, y: Tuple, author: Author) -> NewName
     if !name_values::not_below_zero(y.offset) {
         return refused(Refusal::NoNewName);
     }
-    extended(a, two(name_values::one_lower(y), own(author, MIDDLE)))
+    extended(
+        slots::read_row(page, a.at, a.count),
+        two(name_values::one_lower(y), own(author, MIDDLE)),
+    )
 }
 
 // "3. Else a·(32768, node, sequence, 0)."
-fn right_after(a: Name, author: Author) -> NewName
-    ensures { λ r. ⌜ Says r (answerName (some (rowOf a ++ (ownTuple author 32768 ∷ [])))) ⌝ }
+fn right_after(page: &[u8], a: Span, author: Author) -> NewName
+    requires { ⌜ (a .count ≤ limit) × (a .at + tupleSize * a .count ≤ length (now page)) ⌝ }
+    ensures { λ r. ⌜ Says r (answerName (some (tuplesAt (now (page .entry)) (a .at) (a .count) ++ (ownTuple author 32768 ∷ [])))) ⌝ }
 {
-    extended(a, name_values::one(own(author, MIDDLE)))
+    extended(
+        slots::read_row(page, a.at, a.count),
+        name_values::one(own(author, MIDDLE)),
+    )
 }
 
 // "2. Else if a is missing or a proper prefix of b, let y be b's first tuple after a."
-fn close_by(a: Name, b: Name, author: Author) -> NewName
-    ensures { λ r. ⌜ Says r (answerName (closeBy author (rowOf a) (rest (rowOf a) (rowOf b)))) ⌝ }
+fn close_by(page: &[u8], a: Span, b: Span, author: Author) -> NewName
+    requires { ⌜ (a .count ≤ limit) × (a .at + tupleSize * a .count ≤ length (now page)) ⌝ }
+    requires { ⌜ b .at + tupleSize * b .count ≤ length (now page) ⌝ }
+    ensures { λ r. ⌜ Says r (answerName (closeBy author (tuplesAt (now (page .entry)) (a .at) (a .count)) (rest (tuplesAt (now (page .entry)) (a .at) (a .count)) (tuplesAt (now (page .entry)) (b .at) (b .count))))) ⌝ }
 {
-    let n = names::tuples_in(a);
-    if names::tuples_in(b) <= n {
-        return right_after(a, author);
+    if b.count <= a.count {
+        return right_after(page, a, author);
     }
-    if !is_prefix(a, b) {
-        return right_after(a, author);
+    if !is_prefix(page, a, b) {
+        return right_after(page, a, author);
     }
-    let t = b.tuples;
-    before_tuple(a, t[n], author)
+    let y = slots::read_tuple(page, b.at + TUPLE * a.count);
+    before_tuple(page, a, y, author)
 }
 
 // "1. If they differ by 2 or more: one tuple, position half their sum rounded down, author's node and sequence, offset 0."
-fn new_between(a: Name, b: Name, author: Author) -> NewName
-    ensures { λ r. ⌜ Says r (answerName (newName author (rowOf a) (rowOf b))) ⌝ }
+fn new_between(page: &[u8], a: Span, b: Span, author: Author) -> NewName
+    requires { ⌜ (a .count ≤ limit) × (a .at + tupleSize * a .count ≤ length (now page)) ⌝ }
+    requires { ⌜ b .at + tupleSize * b .count ≤ length (now page) ⌝ }
+    ensures { λ r. ⌜ Says r (answerName (newName author (tuplesAt (now (page .entry)) (a .at) (a .count)) (tuplesAt (now (page .entry)) (b .at) (b .count)))) ⌝ }
 {
-    let low = first_before(a);
-    let high = first_after(b);
+    let low = first_before(page, a);
+    let high = first_after(page, b);
     if low + 2 <= high {
         let name = name_values::one(own(author, ((low + high) / 2) as u16));
         return NewName {
@@ -179,17 +187,18 @@ fn new_between(a: Name, b: Name, author: Author) -> NewName
             name,
         };
     }
-    close_by(a, b, author)
+    close_by(page, a, b, author)
 }
 
-// The name before a gap; before the first slot there is none.
-fn name_before(page: &[u8], gap: usize) -> Name
-    ensures { λ r. ⌜ rowOf r ≡ nameBefore gap (namesOf (now (page .entry))) ⌝ }
+// Where the name before a gap stands; before the first slot there is none.
+fn span_before(page: &[u8], gap: usize) -> Span
+    ensures { λ r. ⌜ (r .at + tupleSize * r .count ≤ length (now (page .entry))) × (r .count ≤ limit) ⌝ }
+    ensures { λ r. ⌜ tuplesAt (now (page .entry)) (r .at) (r .count) ≡ nameBefore gap (namesOf (now (page .entry))) ⌝ }
 {
     if gap < 1 {
-        return name_values::empty();
+        return Span { at: 0, count: 0 };
     }
-    pages::name_of(page, gap - 1)
+    pages::span_of(page, gap - 1)
 }
 
 // 1, 2, 4, 16, 12, 6; else a new name for the gap before slot `gap`, or after the last.
@@ -208,5 +217,7 @@ pub fn new_name(page: &[u8], gap: usize, author: Author) -> NewName
     if page.len() / SLOT < gap {
         return refused(Refusal::NoGap);
     }
-    new_between(name_before(page, gap), pages::name_of(page, gap), author)
+    let a = span_before(page, gap);
+    let b = pages::span_of(page, gap);
+    new_between(page, a, b, author)
 }

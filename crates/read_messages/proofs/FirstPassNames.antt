@@ -1,15 +1,17 @@
--- The first pass along the names: whether those passed are names and rise, how many they are and what follows them (`Passing`, a loop's
--- invariant, with its start, its turns and its ends). Assumes nothing.
+-- The first pass along the names: whether those passed are names and rise, where the last of them stands, how many they are and what
+-- follows them (`Passing`, a loop's invariant, with its start, its turns and its ends). Assumes nothing.
 use mathlib.Core.Path.{_≡_, refl, sym, ap, _∙_}
 use mathlib.Core.List.{List, [], _∷_}
 use mathlib.Core.Bool.{Bool, true, false, _&&_, and-false}
-use Prim.Native.Nat.{ℕ, _+_, _-_, _<_, _≤_}
+use Prim.Native.Nat.{ℕ, _+_, _*_, _-_, _<_, _≤_}
 use native.Mathlib.Omega.{arith}
 use lib.ListN.{length, drop}
 use Rattle.names.specs.Ordering.{Row, compareRows, isLess, rising}
 use Rattle.names.specs.Names.{isName}
 use Rattle.numbers.specs.Bytes.{Bytes}
 use Rattle.numbers.specs.Lists.{every}
+use Rattle.slots.specs.declared.Span.{Span}
+use Rattle.slots.specs.Tuples.{tupleSize, tuplesAt}
 use Rattle.pages.proofs.SlotBySlot.{rising-cons}
 use Rattle.fields.specs.Fields.{fieldHead, sizeIn}
 use Rattle.messages.specs.Messages.{nameFits, nameStands, tuplesIn, namesWithin, afterNames}
@@ -41,60 +43,72 @@ module _ (b a : Row) (l : List Row) where
   good-falls : isLess (compareRows b a) ≡ false → goodAfter b (a ∷ l) ≡ false
   good-falls g = rw (rising-cons b a l, g) (and-false (every nameFits (a ∷ l)))
 
--- k names were passed from c on, the last of them b; the cursor is at p
-pub record Passing (s : Bytes) (c most : ℕ) (b : Row) (p k : ℕ) : Type 0 where
+-- k names were passed from c on, the last of them stands at b; the cursor is at p
+pub record Passing (s : Bytes) (c most : ℕ) (b : Span) (p k : ℕ) : Type 0 where
   pub few : k ≤ most
   pub within : p ≤ length s
-  pub good : goodAfter b (namesWithin (most - k) (drop p s)) ≡ goodNames (namesWithin most (drop c s))
+  pub room : b .at + tupleSize * b .count ≤ length s
+  pub good : goodAfter (tuplesAt s (b .at) (b .count)) (namesWithin (most - k) (drop p s)) ≡ goodNames (namesWithin most (drop c s))
   pub count : k + length (namesWithin (most - k) (drop p s)) ≡ length (namesWithin most (drop c s))
   pub rest : afterNames (most - k) (drop p s) ≡ afterNames most (drop c s)
 
-pub passing-first : (s : Bytes) (c most : ℕ) → c ≤ length s → Passing s c most [] c 0
+pub passing-first : (s : Bytes) (c most : ℕ) → c ≤ length s → Passing s c most (record { at = c; count = 0 }) c 0
 passing-first s c most h =
     let e : most - 0 ≡ most = omega arith in
     let n = ap (λ (n : ℕ). namesWithin n (drop c s)) e in
     record {
       few = omega arith;
       within = h;
+      room = omega arith;
       good = ap (goodAfter []) n ∙ good-first (namesWithin most (drop c s));
       count = let z = ap length n in omega arith;
       rest = ap (λ (n : ℕ). afterNames n (drop c s)) e;
     }
 
-module _ {s : Bytes} {c most : ℕ} {b : Row} {p k : ℕ} (v : Passing s c most b p k) where
+module _ {s : Bytes} {c most : ℕ} {b : Span} {p k : ℕ} (v : Passing s c most b p k) where
+  abbrev last : Row
+  last = tuplesAt s (b .at) (b .count)
+
   -- no name stands there, or there were enough
   pub passing-end : namesWithin (most - k) (drop p s) ≡ [] → afterNames (most - k) (drop p s) ≡ drop p s
       → (true ≡ goodNames (namesWithin most (drop c s))) × (k ≡ length (namesWithin most (drop c s)))
       × (drop p s ≡ afterNames most (drop c s)) × (p ≤ length s)
   passing-end e f = (
-    good-last b ∙ sym (ap (goodAfter b) e) ∙ v .good,
+    good-last last ∙ sym (ap (goodAfter last) e) ∙ v .good,
     let n = v .count in let z = ap length e in omega arith,
     sym f ∙ v .rest,
     v .within,
   )
 
-  module _ (h : k < most) (e : nameStands (drop p s) ≡ true) where
+  -- the name whose field stands there stands at a
+  module _ (h : k < most) (e : nameStands (drop p s) ≡ true) (a : Span) (t : tuplesAt s (a .at) (a .count) ≡ tuplesIn (drop p s)) where
     abbrev after : List Row
     after = namesWithin (most - (k + 1)) (drop (p + (fieldHead + sizeIn (drop p s))) s)
 
     abbrev here : Row
-    here = tuplesIn (drop p s)
+    here = tuplesAt s (a .at) (a .count)
 
-    turn : goodAfter b (here ∷ after) ≡ goodNames (namesWithin most (drop c s))
-    turn = sym (ap (goodAfter b) (names-next s p most k h e)) ∙ v .good
+    next : namesWithin (most - k) (drop p s) ≡ here ∷ after
+    next = names-next s p most k h e ∙ ap (λ (r : Row). r ∷ after) (sym t)
 
-    pub passing-unfit : nameFits (tuplesIn (drop p s)) ≡ false → false ≡ goodNames (namesWithin most (drop c s))
-    passing-unfit f = sym (good-unfit b here after f) ∙ turn
+    turn : goodAfter last (here ∷ after) ≡ goodNames (namesWithin most (drop c s))
+    turn = sym (ap (goodAfter last) next) ∙ v .good
 
-    pub passing-falls : isLess (compareRows b (tuplesIn (drop p s))) ≡ false → false ≡ goodNames (namesWithin most (drop c s))
-    passing-falls g = sym (good-falls b here after g) ∙ turn
+    pub passing-unfit : nameFits (tuplesAt s (a .at) (a .count)) ≡ false → false ≡ goodNames (namesWithin most (drop c s))
+    passing-unfit f = sym (good-unfit last here after f) ∙ turn
 
-    pub passing-on : nameFits (tuplesIn (drop p s)) ≡ true → isLess (compareRows b (tuplesIn (drop p s))) ≡ true
-        → Passing s c most (tuplesIn (drop p s)) (p + (fieldHead + sizeIn (drop p s))) (k + 1)
-    passing-on f g = record {
+    pub passing-falls : isLess (compareRows (tuplesAt s (b .at) (b .count)) (tuplesAt s (a .at) (a .count))) ≡ false
+        → false ≡ goodNames (namesWithin most (drop c s))
+    passing-falls g = sym (good-falls last here after g) ∙ turn
+
+    pub passing-on : a .at + tupleSize * a .count ≤ length s → nameFits (tuplesAt s (a .at) (a .count)) ≡ true
+        → isLess (compareRows (tuplesAt s (b .at) (b .count)) (tuplesAt s (a .at) (a .count))) ≡ true
+        → Passing s c most a (p + (fieldHead + sizeIn (drop p s))) (k + 1)
+    passing-on r f g = record {
       few = omega arith;
       within = name-long s p e;
-      good = sym (good-on b here after f g) ∙ turn;
-      count = let n = v .count in let z = ap length (names-next s p most k h e) in omega arith;
+      room = r;
+      good = sym (good-on last here after f g) ∙ turn;
+      count = let n = v .count in let z = ap length next in omega arith;
       rest = sym (after-next s p most k h e) ∙ v .rest;
     }

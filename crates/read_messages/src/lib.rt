@@ -10,6 +10,7 @@ ghost use Rattle.names.specs.Names.{rowOf};
 ghost use Rattle.names.specs.Ordering.{compareRows, isLess};
 ghost use Rattle.numbers.specs.Bytes.{at32, put};
 ghost use Rattle.numbers.specs.Lists.{every};
+ghost use Rattle.slots.specs.Tuples.{tupleSize, tuplesAt};
 ghost use Rattle.slots.specs.Slots.{slotSize};
 ghost use Rattle.answers.specs.Answers.{ask, leaves};
 ghost use Rattle.pages.specs.Pages.{pieces};
@@ -39,6 +40,7 @@ use names::Author;
 use names::LIMIT;
 use names::Name;
 use slots::SLOT;
+use slots::Span;
 use slots::TUPLE;
 
 // ── what stands at a cursor ──
@@ -58,31 +60,38 @@ fn name_stands(message: &[u8], cursor: Cursor) -> bool
     size % TUPLE == 0
 }
 
-// The name whose field stands at the cursor has 1 to 8 tuples and is a name.
-fn name_fits(message: &[u8], cursor: Cursor) -> bool
+// Where the tuples of the name stand whose field stands at the cursor.
+fn span_in(message: &[u8], cursor: Cursor) -> Span
     requires { ⌜ nameStands (drop (cursor .at) (now message)) ≡ true ⌝ }
-    ensures { λ r. ⌜ r ≡ nameFits (tuplesIn (drop (cursor .at) (now (message .entry)))) ⌝ }
+    ensures { λ r. ⌜ r .at + tupleSize * r .count ≤ length (now (message .entry)) ⌝ }
+    ensures { λ r. ⌜ tuplesAt (now (message .entry)) (r .at) (r .count) ≡ tuplesIn (drop (cursor .at) (now (message .entry))) ⌝ }
 {
-    let n = fields::size_at(message, cursor) / TUPLE;
-    if n < 1 {
-        return false;
-    }
-    if LIMIT < n {
-        return false;
-    }
-    slots::name_at(message, cursor.at + FIELD, n)
+    let at = cursor.at + FIELD;
+    let count = fields::size_at(message, cursor) / TUPLE;
+    Span { at, count }
 }
 
-// The name.
+// The tuples are 1 to 8 and are a name.
+fn name_fits(message: &[u8], tuples: Span) -> bool
+    requires { ⌜ tuples .at + tupleSize * tuples .count ≤ length (now message) ⌝ }
+    ensures { λ r. ⌜ r ≡ nameFits (tuplesAt (now (message .entry)) (tuples .at) (tuples .count)) ⌝ }
+{
+    if tuples.count < 1 {
+        return false;
+    }
+    if LIMIT < tuples.count {
+        return false;
+    }
+    slots::name_at(message, tuples.at, tuples.count)
+}
+
+// The name whose field stands at the cursor.
 fn name_in(message: &[u8], cursor: Cursor) -> Name
     requires { ⌜ (nameStands (drop (cursor .at) (now message)) ≡ true) × (nameFits (tuplesIn (drop (cursor .at) (now message))) ≡ true) ⌝ }
     ensures { λ r. ⌜ rowOf r ≡ tuplesIn (drop (cursor .at) (now (message .entry))) ⌝ }
 {
-    slots::read_row(
-        message,
-        cursor.at + FIELD,
-        fields::size_at(message, cursor) / TUPLE,
-    )
+    let tuples = span_in(message, cursor);
+    slots::read_row(message, tuples.at, tuples.count)
 }
 
 // The fields of kind, epoch and author stand one after the other from the cursor on.
@@ -183,13 +192,32 @@ struct Passed {
     at: usize,
 }
 
-// The names whose fields stand one after the other from the cursor on, at most so many. The row of no tuples is below every name.
+// "rising": the first name is below the second, compared where they stand in the message.
+fn rises(message: &[u8], first: Span, second: Span) -> bool
+    requires { ⌜ (first .at + tupleSize * first .count ≤ length (now message)) × (second .at + tupleSize * second .count ≤ length (now message)) ⌝ }
+    ensures { λ r. ⌜ r ≡ isLess (compareRows (tuplesAt (now (message .entry)) (first .at) (first .count)) (tuplesAt (now (message .entry)) (second .at) (second .count))) ⌝ }
+{
+    names::is_less(slots::compare_rows(
+        message,
+        first.at,
+        first.count,
+        message,
+        second.at,
+        second.count,
+    ))
+}
+
+// The names whose fields stand one after the other from the cursor on, at most so many. Kept of the last is where it stands; at first that
+// is the row of no tuples, which is below every name.
 fn pass_names(message: &[u8], cursor: Cursor, most: usize) -> Passed
     requires { ⌜ cursor .at ≤ length (now message) ⌝ }
     ensures { λ r. ⌜ r .good ≡ goodNames (namesWithin most (drop (cursor .at) (now (message .entry)))) ⌝ }
     ensures { λ r. ⌜ (r .good ≡ true → (r .names ≡ length (namesWithin most (drop (cursor .at) (now (message .entry))))) × (drop (r .at) (now (message .entry)) ≡ afterNames most (drop (cursor .at) (now (message .entry)))) × (r .at ≤ length (now (message .entry)))) ⌝ }
 {
-    let mut last = name_values::empty();
+    let mut last = Span {
+        at: cursor.at,
+        count: 0,
+    };
     let mut names: usize = 0;
     let mut at = cursor.at;
     loop {
@@ -208,15 +236,15 @@ fn pass_names(message: &[u8], cursor: Cursor, most: usize) -> Passed
                 at,
             };
         }
-        if !name_fits(message, here) {
+        let name = span_in(message, here);
+        if !name_fits(message, name) {
             break Passed {
                 good: false,
                 names,
                 at,
             };
         }
-        let name = name_in(message, here);
-        if !names::is_below(last, name) {
+        if !rises(message, last, name) {
             break Passed {
                 good: false,
                 names,

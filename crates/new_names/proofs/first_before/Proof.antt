@@ -1,36 +1,33 @@
 -- `new_names::first_before` meets its contract. Assumes nothing.
 use native.Mathlib.Omega.{arith}
-use mathlib.Core.Path.{ap, _∙_}
-use Rattle.names.specs.declared.Tuple.{Tuple}
-use Rattle.names.specs.Names.{rowOf}
-use Rattle.new_names.proofs.Prefixes.{row-at, before-none, before-first}
+use mathlib.Core.Path.{_∙_}
+use denote.Ref.{now}
+use Rattle.new_names.proofs.Prefixes.{before-none, before-first}
 use borrow.Author.Needs.{needs}
 use Rattle.new_names.proofs.first_before.Statement.{statement}
 use Rattle.new_names.proofs.first_before.Tie as tie
 
-tuples-in-requires : tie.Need-tuples-in-requires
-tuples-in-requires c κs = search needs
-
 returns : tie.Need-returns
 returns c =
+    let then1 : tie.Then1 = search needs in
     let start : tie.Start = search needs in
-    (before-none (rowOf (start .args .a)) (omega arith), omega arith)
+    let a = start .args .a in
+    (before-none (now (start .args .page)) (a .at) (a .count) (then1 .if1 .taken), omega arith)
 
-element-copy-out-wide : tie.Need-element-copy-out-wide
-element-copy-out-wide c = search needs
+read-u16-requires : tie.Need-read-u16-requires
+read-u16-requires c κs = search needs
 
 wide-requires : tie.Need-wide-requires
 wide-requires c κs = search needs
 
 returns-2 : tie.Need-returns-2
 returns-2 c =
+    let after-read-u16 : tie.After-read-u16 = search needs in
+    let else1 : tie.Else1 = search needs in
     let start : tie.Start = search needs in
-    let after-tuples-in : tie.After-tuples-in = search needs in
-    let n = after-tuples-in .tuples-in .result in
-    let t = row-at (start .args .a) n 0 (after-tuples-in .tuples-in .ensures .0) (omega arith) in
-    let e = ap (λ (t : Tuple). t .position) t ∙ before-first (rowOf (start .args .a)) (omega arith) in
-    (c .wide .ensures .0 ∙ e, c .wide .ensures .1)
+    let a = start .args .a in
+    let e = before-first (now (start .args .page)) (a .at) (a .count) (else1 .if1 .left) in
+    (c .wide .ensures .0 ∙ after-read-u16 .read-u16 .ensures ∙ e, c .wide .ensures .1)
 
 pub first-before-spec : {M : Type 1} → statement M
-first-before-spec =
-    tie.close (tie.spec tuples-in-requires returns element-copy-out-wide wide-requires returns-2)
+first-before-spec = tie.close (tie.spec returns read-u16-requires wide-requires returns-2)

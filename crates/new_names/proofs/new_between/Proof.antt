@@ -3,8 +3,10 @@ use native.Mathlib.Omega.{arith}
 use Prim.Native.Nat.{ℕ, _+_, _/_, _<_, _≤_}
 use mathlib.Core.Path.{_≡_, refl, ap, _∙_}
 use mathlib.Core.List.{[], _∷_}
+use denote.Ref.{now}
 use Rattle.names.specs.declared.Tuple.{Tuple}
-use Rattle.names.specs.Names.{rowOf, valueOf}
+use Rattle.names.specs.Names.{valueOf}
+use Rattle.slots.specs.Tuples.{tuplesAt}
 use Rattle.answers.specs.declared.Answer.the-variants.{Accepted}
 use Rattle.new_names.specs.NewNames.{firstBefore, firstAfter, own}
 use Rattle.new_names.proofs.Rules.{given, new-apart, new-close}
@@ -35,12 +37,12 @@ one-requires c κs = search needs
 
 returns : tie.Need-returns
 returns c =
-    let start : tie.Start = search needs in
-    let after-first-before : tie.After-first-before = search needs in
-    let after-first-after : tie.After-first-after = search needs in
     let after-own : tie.After-own = search needs in
-    let a = rowOf (start .args .a) in
-    let b = rowOf (start .args .b) in
+    let after-first-after : tie.After-first-after = search needs in
+    let after-first-before : tie.After-first-before = search needs in
+    let start : tie.Start = search needs in
+    let a = tuplesAt (now (start .args .page)) (start .args .a .at) (start .args .a .count) in
+    let b = tuplesAt (now (start .args .page)) (start .args .b .at) (start .args .b .count) in
     let author = start .args .author in
     let h : firstBefore a + 2 ≤ firstAfter b = omega arith in
     let low = after-first-before .first-before in
@@ -55,8 +57,8 @@ close-by-requires c κs = search needs
 returns-2 : tie.Need-returns-2
 returns-2 c =
     let start : tie.Start = search needs in
-    let a = rowOf (start .args .a) in
-    let b = rowOf (start .args .b) in
+    let a = tuplesAt (now (start .args .page)) (start .args .a .at) (start .args .a .count) in
+    let b = tuplesAt (now (start .args .page)) (start .args .b .at) (start .args .b .count) in
     let h : firstAfter b < firstBefore a + 2 = omega arith in
     given (c .close-by .result) (new-close (start .args .author) a b h) (c .close-by .ensures)
 

@@ -82,11 +82,11 @@ returns-4 c =
     let gap : leb (s .args .gap) n ≡ false = lt-leb (s .args .gap) n (omega (arith, length-slots (now (s .args .page)))) in
     simp (sound k .0, sound k .1, node, gap) (c .refused4 .ensures)
 
-name-before-requires : tie.Need-name-before-requires
-name-before-requires c κs = search needs
+span-before-requires : tie.Need-span-before-requires
+span-before-requires c κs = search needs
 
-name-of-requires : tie.Need-name-of-requires
-name-of-requires c κs = search needs
+span-of-requires : tie.Need-span-of-requires
+span-of-requires c κs = search needs
 
 new-between-requires : tie.Need-new-between-requires
 new-between-requires c κs = search needs
@@ -97,13 +97,13 @@ returns-5 c =
     let s : tie.Start = search needs in
     let k : tie.Else2 = search needs in
     let x : tie.Else3 = search needs in
-    let a : tie.After-name-before = search needs in
-    let b : tie.After-name-of = search needs in
+    let a : tie.After-span-before = search needs in
+    let b : tie.After-span-of = search needs in
     let n = length (slotsOf (now (s .args .page))) in
     let node : leb 1 (s .args .author .node) ≡ true = le-leb 1 (s .args .author .node) (x .if3 .left) in
     let gap : leb (s .args .gap) n ≡ true = le-leb (s .args .gap) n (omega (arith, length-slots (now (s .args .page)))) in
     let r = c .new-between .result in
-    let w = given r (λ i. newName (s .args .author) (a .name-before .ensures i) (b .name-of .ensures i)) (c .new-between .ensures) in
+    let w = given r (λ i. newName (s .args .author) (a .span-before .ensures .1 i) (b .span-of .ensures .1 i)) (c .new-between .ensures) in
     simp (sound k .0, sound k .1, node, gap) w
 
 pub new-name-spec : {M : Type 1} → statement M
@@ -120,7 +120,7 @@ new-name-spec =
     returns-3
     refused-requires-4
     returns-4
-    name-before-requires
-    name-of-requires
+    span-before-requires
+    span-of-requires
     new-between-requires
     returns-5)

@@ -5,10 +5,7 @@ use native.Mathlib.Omega.{arith}
 use denote.Ref.{now}
 use lib.ListN.{drop}
 use borrow.Author.Tests.{not-true, not-false}
-use Rattle.names.specs.Ordering.{Row, compareRows, isLess}
-use Rattle.names.specs.Names.{rowOf}
 use Rattle.numbers.proofs.Bools.{yes-no}
-use Rattle.fields.specs.Fields.{fieldHead, sizeIn}
 use Rattle.messages.specs.Messages.{namesWithin, afterNames}
 use Rattle.read_messages.proofs.AtCursor.{name-long}
 use Rattle.messages.proofs.NameFields.{names-stop, after-stop}
@@ -18,41 +15,34 @@ use Rattle.read_messages.proofs.pass_names.Statement.{statement}
 use Rattle.read_messages.proofs.pass_names.Tie as tie
 
 abbrev Inv-loop : tie.InvT-loop
-Inv-loop message most last₀ names₀ at₀ last names at = Passing message at₀ most (rowOf last) at names
+Inv-loop message most last₀ names₀ at₀ last names at = Passing message at₀ most last at names
 
 abbrev μ-loop : tie.MeasureT-loop
 μ-loop message most last₀ names₀ at₀ last names at = most - names
 
-empty-requires : tie.Need-empty-requires Inv-loop μ-loop
-empty-requires c κs = search needs
-
 loop-holds : tie.Need-loop-holds Inv-loop μ-loop
 loop-holds c =
     let start : tie.Start Inv-loop μ-loop = search needs in
-    let s = now (start .args .message) in
-    let p = start .args .cursor .at in
-    subst (λ (a : Row). Passing s p (start .args .most) a p 0) (sym (ap rowOf (c .empty .ensures))) (passing-first s p (start .args .most) (start .pre))
+    passing-first (now (start .args .message)) (start .args .cursor .at) (start .args .most) (start .pre)
 
 name-stands-requires : tie.Need-name-stands-requires Inv-loop μ-loop
 name-stands-requires c κs =
     let here : tie.At-loop Inv-loop μ-loop = search needs in
     here .loop .inv .within
 
-name-fits-requires : tie.Need-name-fits-requires Inv-loop μ-loop
-name-fits-requires c κs =
+span-in-requires : tie.Need-span-in-requires Inv-loop μ-loop
+span-in-requires c κs =
     let stood : tie.After-name-stands Inv-loop μ-loop = search needs in
     sym (stood .name-stands .ensures) ∙ not-false (stood .name-stands .result) (c .if2 .left)
 
-name-in-requires : tie.Need-name-in-requires Inv-loop μ-loop
-name-in-requires c κs =
-    let stood : tie.After-name-stands Inv-loop μ-loop = search needs in
-    let else2 : tie.Else2 Inv-loop μ-loop = search needs in
-    let fit : tie.After-name-fits Inv-loop μ-loop = search needs in
-    let e = sym (stood .name-stands .ensures) ∙ not-false (stood .name-stands .result) (else2 .if2 .left) in
-    (e, sym (fit .name-fits .ensures) ∙ not-false (fit .name-fits .result) (c .if3 .left))
+name-fits-requires : tie.Need-name-fits-requires Inv-loop μ-loop
+name-fits-requires c κs = c .span-in .ensures .0
 
-is-below-requires : tie.Need-is-below-requires Inv-loop μ-loop
-is-below-requires c κs = search needs
+rises-requires : tie.Need-rises-requires Inv-loop μ-loop
+rises-requires c κs =
+    let name : tie.After-span-in Inv-loop μ-loop = search needs in
+    let here : tie.At-loop Inv-loop μ-loop = search needs in
+    (here .loop .inv .room, name .span-in .ensures .0)
 
 after-field-requires : tie.Need-after-field-requires Inv-loop μ-loop
 after-field-requires c κs =
@@ -75,25 +65,20 @@ loop-again c =
     let here : tie.At-loop Inv-loop μ-loop = search needs in
     let stood : tie.After-name-stands Inv-loop μ-loop = search needs in
     let else2 : tie.Else2 Inv-loop μ-loop = search needs in
+    let name : tie.After-span-in Inv-loop μ-loop = search needs in
     let fit : tie.After-name-fits Inv-loop μ-loop = search needs in
     let else3 : tie.Else3 Inv-loop μ-loop = search needs in
-    let name : tie.After-name-in Inv-loop μ-loop = search needs in
-    let above : tie.After-is-below Inv-loop μ-loop = search needs in
+    let above : tie.After-rises Inv-loop μ-loop = search needs in
     let else4 : tie.Else4 Inv-loop μ-loop = search needs in
-    let s = now (start .args .message) in
-    let p = here .loop .at in
     let k = here .loop .names in
     let m = start .args .most in
+    let a = name .span-in .result in
     let h : k < m = omega arith in
     let e = sym (stood .name-stands .ensures) ∙ not-false (stood .name-stands .result) (else2 .if2 .left) in
     let f = sym (fit .name-fits .ensures) ∙ not-false (fit .name-fits .result) (else3 .if3 .left) in
-    let less = ap (λ (a : Row). isLess (compareRows (rowOf (here .loop .last)) a)) (sym (name .name-in .ensures)) in
-    let g = less ∙ sym (above .is-below .ensures) ∙ not-false (above .is-below .result) (else4 .if4 .left) in
-    let v = passing-on (here .loop .inv) h e f g in
-    let from = start .args .cursor .at in
-    let next = p + (fieldHead + sizeIn (drop p s)) in
-    let w = subst (λ (a : Row). Passing s from m a next (k + 1)) (sym (name .name-in .ensures)) v in
-    subst (λ (n : ℕ). Passing s from m (rowOf (name .name-in .result)) n (k + 1)) (sym (c .after-field .ensures)) w
+    let g = sym (above .rises .ensures) ∙ not-false (above .rises .result) (else4 .if4 .left) in
+    let v = passing-on (here .loop .inv) h e a (name .span-in .ensures .1) (name .span-in .ensures .0) f g in
+    subst (λ (n : ℕ). Passing (now (start .args .message)) (start .args .cursor .at) m a n (k + 1)) (sym (c .after-field .ensures)) v
 
 returns : tie.Need-returns Inv-loop μ-loop
 returns c =
@@ -122,11 +107,12 @@ returns-3 c =
     let here : tie.At-loop Inv-loop μ-loop = search needs in
     let stood : tie.After-name-stands Inv-loop μ-loop = search needs in
     let else2 : tie.Else2 Inv-loop μ-loop = search needs in
+    let name : tie.After-span-in Inv-loop μ-loop = search needs in
     let fit : tie.After-name-fits Inv-loop μ-loop = search needs in
     let h : here .loop .names < start .args .most = omega arith in
     let e = sym (stood .name-stands .ensures) ∙ not-false (stood .name-stands .result) (else2 .if2 .left) in
     let f = sym (fit .name-fits .ensures) ∙ not-true (fit .name-fits .result) (c .if3 .taken) in
-    (passing-unfit (here .loop .inv) h e f, λ q. yes-no q refl)
+    (passing-unfit (here .loop .inv) h e (name .span-in .result) (name .span-in .ensures .1) f, λ q. yes-no q refl)
 
 returns-4 : tie.Need-returns-4 Inv-loop μ-loop
 returns-4 c =
@@ -134,13 +120,12 @@ returns-4 c =
     let here : tie.At-loop Inv-loop μ-loop = search needs in
     let stood : tie.After-name-stands Inv-loop μ-loop = search needs in
     let else2 : tie.Else2 Inv-loop μ-loop = search needs in
-    let name : tie.After-name-in Inv-loop μ-loop = search needs in
-    let above : tie.After-is-below Inv-loop μ-loop = search needs in
+    let name : tie.After-span-in Inv-loop μ-loop = search needs in
+    let above : tie.After-rises Inv-loop μ-loop = search needs in
     let h : here .loop .names < start .args .most = omega arith in
     let e = sym (stood .name-stands .ensures) ∙ not-false (stood .name-stands .result) (else2 .if2 .left) in
-    let less = ap (λ (a : Row). isLess (compareRows (rowOf (here .loop .last)) a)) (sym (name .name-in .ensures)) in
-    let g = less ∙ sym (above .is-below .ensures) ∙ not-true (above .is-below .result) (c .if4 .taken) in
-    (passing-falls (here .loop .inv) h e g, λ q. yes-no q refl)
+    let g = sym (above .rises .ensures) ∙ not-true (above .rises .result) (c .if4 .taken) in
+    (passing-falls (here .loop .inv) h e (name .span-in .result) (name .span-in .ensures .1) g, λ q. yes-no q refl)
 
 pub pass-names-spec : {M : Type 1} → statement M
 pass-names-spec =
@@ -148,12 +133,11 @@ pass-names-spec =
     (tie.spec
     Inv-loop
     μ-loop
-    empty-requires
     loop-holds
     name-stands-requires
+    span-in-requires
     name-fits-requires
-    name-in-requires
-    is-below-requires
+    rises-requires
     after-field-requires
     add-names
     loop-less
