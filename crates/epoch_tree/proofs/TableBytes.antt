@@ -10,9 +10,9 @@ use native.Mathlib.Omega.{arith}
 use borrow.Author.Tests.{eqb-true, eq-eqb}
 use lib.Dec.{eqb}
 use lib.ListN.{length, take, drop, getD, length-append, length-take, length-drop, length-map, take-append-drop}
-use lib.Seq.{getD-take, take-at, drop-at, ext-getD}
+use lib.Seq.{take-at, drop-at, ext-getD}
 use Rattle.numbers.proofs.Bools.{and-0, and-1}
-use Rattle.numbers.specs.Bytes.{Bytes, Octets, at16}
+use Rattle.numbers.specs.Bytes.{Bytes, Octets}
 use Rattle.numbers.proofs.ReadNumbers.{two-on, four-on, two-within, four-within}
 use Rattle.numbers.proofs.Octets.{octets-take, octets-drop}
 use Rattle.numbers.proofs.Lists.{flat, flat-none, flat-append}

@@ -1,13 +1,13 @@
 -- Rows of tuples as values with zeros after them: their row, one tuple more, and two joined. Assumes nothing.
 use mathlib.Core.Path.{_≡_, refl, _∙_, sym, ap}
-use mathlib.Core.List.{[], _∷_, _++_, append-assoc, append-nil}
+use mathlib.Core.List.{[], _∷_, _++_, append-assoc}
 use mathlib.Core.Bool.{Bool, true, false, cond}
 use Prim.Native.Nat.{ℕ, suc, _+_, _-_, _<_, _≤_}
 use native.Mathlib.Numerals.{add-one}
 use native.Mathlib.Omega.{arith}
 use borrow.Author.Tests.{le-leb, lt-leb}
-use lib.ListN.{length, take, drop, set, getD, replicate, length-append, drop-of-length-le}
-use lib.Seq.{take-append-seam, set-at, take-suc, length-take-le, drop-append-le}
+use lib.ListN.{length, take, set, getD, replicate, length-append}
+use lib.Seq.{take-append-seam, set-at, take-suc}
 use Rattle.names.specs.declared.Tuple.{Tuple}
 use Rattle.names.specs.declared.Name.{Name}
 use Rattle.names.specs.Ordering.{Row}
@@ -40,16 +40,10 @@ value-more {x} a t e h =
     ∙ sym (append-assoc a (t ∷ []) (replicate k m)) in
     λ i. record { depth = d i; tuples = z i }
 
--- one tuple more of a row whose tuples from f on are joined to a
-pub take-more : (a l : Row) (f i : ℕ) → f ≤ i → i < length l → (a ++ drop f (take i l)) ++ (getD l i m ∷ []) ≡ a ++ drop f (take (i + 1) l)
-take-more a l f i g h =
-    let k : f ≤ length (take i l) = omega (arith, length-take-le i l (omega arith)) in
-    append-assoc a (drop f (take i l)) (getD l i m ∷ [])
-    ∙ ap (λ (r : Row). a ++ r) (sym (ap (drop f) (ap (λ (n : ℕ). take n l) (add-one i) ∙ take-suc l i m h) ∙ drop-append-le f (take i l) (getD l i m ∷ []) k))
-
--- before the first of them there is none
-pub take-none : (a l : Row) (f : ℕ) → f ≤ length l → a ≡ a ++ drop f (take f l)
-take-none a l f h = sym (ap (λ (r : Row). a ++ r) (drop-of-length-le (take f l) {i = f} (omega (arith, length-take-le f l h))) ∙ append-nil a)
+-- one tuple more of a row that is joined to a
+pub take-more : (a l : Row) (i : ℕ) → i < length l → (a ++ take i l) ++ (getD l i m ∷ []) ≡ a ++ take (i + 1) l
+take-more a l i h =
+    append-assoc a (take i l) (getD l i m ∷ []) ∙ ap (λ (r : Row). a ++ r) (sym (ap (λ (n : ℕ). take n l) (add-one i) ∙ take-suc l i m h))
 
 module _ (a b : Row) where
   pub joined-fits : length a + length b ≤ limit → true ≡ fits (a ++ b)

@@ -13,7 +13,6 @@ use Rattle.name_values.proofs.one.Reads as one-reads
 use Rattle.name_values.proofs.one_below.Reads as one-below
 use Rattle.name_values.proofs.one_lower.Reads as one-lower
 use Rattle.name_values.proofs.push.Reads as push
-use Rattle.name_values.proofs.tail.Reads as tail
 
 pub low-marker-settled : (κs : _) (a : _) (r : _) (s : _) (r' : _) (s' : _) → low-marker.Learnt κs a r s → low-marker.Learnt κs a r' s' → r ≡ r'
 low-marker-settled κs a r s r' s' p q = one p q
@@ -44,6 +43,3 @@ one-lower-settled κs a r s r' s' p q = one p q
 
 pub push-settled : (κs : _) (a : _) (r : _) (s : _) (r' : _) (s' : _) → push.Learnt κs a r s → push.Learnt κs a r' s' → r ≡ r'
 push-settled κs a r s r' s' p q = one p q
-
-pub tail-settled : (κs : _) (a : _) (r : _) (s : _) (r' : _) (s' : _) → tail.Learnt κs a r s → tail.Learnt κs a r' s' → r ≡ r'
-tail-settled κs a r s r' s' p q = one p q

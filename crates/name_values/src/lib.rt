@@ -1,10 +1,10 @@
-// Names made by value: the empty one, one tuple more, two joined, the tail, one below. Document 01, "Names"; the definitions are in
+// Names made by value: the empty one, one tuple more, two joined, one below. Document 01, "Names"; the definitions are in
 // crates/names.
 ghost use mathlib.Core.Path.{_≡_};
 ghost use mathlib.Core.List.{[], _∷_, _++_};
 ghost use mathlib.Core.Bool.{true};
 ghost use Prim.Native.Nat.{_+_, _≤_, _<_};
-ghost use lib.ListN.{length, drop};
+ghost use lib.ListN.{length};
 ghost use lib.IntN.{predℤ};
 ghost use lib.Signed.{nonNeg};
 ghost use Rattle.names.specs.Names.{limit, fits, rowOf, valueOf, joined, lowered, oneBelow, isName, m, M};
@@ -66,15 +66,15 @@ pub fn one(t: Tuple) -> Name
     push(empty(), t)
 }
 
-// The tuples of b from number `from` on after those of a, which has zeros after them.
-fn append(a: Name, b: Name, from: usize) -> Name
-    requires { ⌜ (a ≡ valueOf (rowOf a)) × (from ≤ length (rowOf b)) × (length (rowOf a) + length (rowOf b) ≤ limit + from) ⌝ }
-    ensures { λ r. ⌜ r ≡ valueOf (rowOf a ++ drop from (rowOf b)) ⌝ }
+// The tuples of b after those of a, which has zeros after them.
+fn append(a: Name, b: Name) -> Name
+    requires { ⌜ (a ≡ valueOf (rowOf a)) × (length (rowOf a) + length (rowOf b) ≤ limit) ⌝ }
+    ensures { λ r. ⌜ r ≡ valueOf (rowOf a ++ rowOf b) ⌝ }
 {
     let t = b.tuples;
     let n = names::tuples_in(b);
     let mut r = a;
-    let mut i = from;
+    let mut i: usize = 0;
     while i < n {
         r = push(r, t[i]);
         i += 1;
@@ -90,7 +90,7 @@ pub fn join(a: Name, b: Name) -> Joined
         let name = empty();
         return Joined { fits: false, name };
     }
-    let name = append(append(empty(), a, 0), b, 0);
+    let name = append(append(empty(), a), b);
     Joined { fits: true, name }
 }
 
@@ -102,16 +102,8 @@ pub fn join_by(a: Name, t: Tuple, b: Name) -> Joined
         let name = empty();
         return Joined { fits: false, name };
     }
-    let name = append(push(append(empty(), a, 0), t), b, 0);
+    let name = append(push(append(empty(), a), t), b);
     Joined { fits: true, name }
-}
-
-// The tuples after the first.
-pub fn tail(a: Name) -> Name
-    requires { ⌜ 1 ≤ length (rowOf a) ⌝ }
-    ensures { λ r. ⌜ r ≡ valueOf (drop 1 (rowOf a)) ⌝ }
-{
-    append(empty(), a, 1)
 }
 
 pub fn not_below_zero(z: i32) -> bool

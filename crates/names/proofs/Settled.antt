@@ -6,11 +6,9 @@ use Rattle.names.proofs.is_less.Reads as is-less
 use Rattle.names.proofs.is_same.Reads as is-same
 use Rattle.names.proofs.compare_numbers.Reads as compare-numbers
 use Rattle.names.proofs.first_of.Reads as first-of
-use Rattle.names.proofs.compare_tuples.Reads as compare-tuples
 use Rattle.names.proofs.tuples_in.Reads as tuples-in
 use Rattle.names.proofs.compare.Reads as compare
 use Rattle.names.proofs.is_below.Reads as is-below
-use Rattle.names.proofs.compare_to_one.Reads as compare-to-one
 
 pub is-less-settled : (κs : _) (a : _) (r : _) (s : _) (r' : _) (s' : _) → is-less.Learnt κs a r s → is-less.Learnt κs a r' s' → r ≡ r'
 is-less-settled κs a r s r' s' p q = one p q
@@ -24,9 +22,6 @@ compare-numbers-settled κs a r s r' s' p q = one p q
 pub first-of-settled : (κs : _) (a : _) (r : _) (s : _) (r' : _) (s' : _) → first-of.Learnt κs a r s → first-of.Learnt κs a r' s' → r ≡ r'
 first-of-settled κs a r s r' s' p q = one p q
 
-pub compare-tuples-settled : (κs : _) (a : _) (r : _) (s : _) (r' : _) (s' : _) → compare-tuples.Learnt κs a r s → compare-tuples.Learnt κs a r' s' → r ≡ r'
-compare-tuples-settled κs a r s r' s' p q = one p q
-
 pub tuples-in-settled : (κs : _) (a : _) (r : _) (s : _) (r' : _) (s' : _) → tuples-in.Learnt κs a r s → tuples-in.Learnt κs a r' s' → r ≡ r'
 tuples-in-settled κs a r s r' s' p q = one (p .0) (q .0)
 
@@ -35,6 +30,3 @@ compare-settled κs a r s r' s' p q = one p q
 
 pub is-below-settled : (κs : _) (a : _) (r : _) (s : _) (r' : _) (s' : _) → is-below.Learnt κs a r s → is-below.Learnt κs a r' s' → r ≡ r'
 is-below-settled κs a r s r' s' p q = one p q
-
-pub compare-to-one-settled : (κs : _) (a : _) (r : _) (s : _) (r' : _) (s' : _) → compare-to-one.Learnt κs a r s → compare-to-one.Learnt κs a r' s' → r ≡ r'
-compare-to-one-settled κs a r s r' s' p q = one p q

@@ -1,21 +1,18 @@
 -- The order, where a function has tested it: the test of "below" says on which side a name lies (`is-under`, `not-under`); two names
--- compared the other way round (`turned-less`, `turned-same`, `turned-more`); a name's first tuple against another tuple (`first-none`,
--- `first-as`). Assumes nothing.
+-- compared the other way round (`turned-less`, `turned-same`, `turned-more`); a row of no tuples against one tuple (`first-none`).
+-- Assumes nothing.
 use mathlib.Core.Path.{_≡_, refl, _∙_, sym, ap}
 use mathlib.Core.List.{[], _∷_}
 use mathlib.Core.Bool.{true, false}
 use Prim.Native.Nat.{_<_, _≤_}
 use native.Mathlib.Omega.{arith}
-use lib.ListN.{length, take, getD, length-take}
-use lib.Seq.{getD-take}
-use Rattle.names.specs.declared.Name.{Name}
+use lib.ListN.{length, take}
 use Rattle.names.specs.declared.Tuple.{Tuple}
 use Rattle.names.specs.declared.Order.{Order}
 use Rattle.names.specs.declared.Order.the-variants.{Less, Same, More}
-use Rattle.names.specs.Ordering.{Row, compareTuples, compareRows, isLess, _<ⁿ_, ends, _≤ⁿ_, less, equal}
-use Rattle.names.specs.Names.{rowOf, m}
+use Rattle.names.specs.Ordering.{Row, compareRows, isLess, _<ⁿ_, ends, _≤ⁿ_, less, equal}
 use Rattle.numbers.proofs.Bools.{yes-no}
-use Rattle.names.proofs.Laws.{then-same, Tri, below, level, above, triN, row-less, row-more, row-same, less-row, same-row, more-row}
+use Rattle.names.proofs.Laws.{Tri, below, level, above, triN, row-less, row-more, row-same, less-row, same-row, more-row}
 
 -- ── by the test ──
 
@@ -57,15 +54,3 @@ pub first-none : (a : Row) (t : Tuple) → length a < 1 → Less ≡ compareRows
 unfolding compareRows
 first-none [] t h = refl
 first-none (s ∷ a) t h = absurd (omega arith)
-
-first-is : (b : Row) (t : Tuple) → 1 ≤ length b → compareTuples (getD b 0 m) t ≡ compareRows (take 1 b) (t ∷ [])
-unfolding compareRows
-first-is [] t h = absurd (omega arith)
-first-is (s ∷ b) t h = sym (then-same (compareTuples s t))
-
--- of a name as the code has it, the first tuple compares with t as o
-pub first-as : (a : Name) (t : Tuple) {o r : Order} → 1 ≤ length (rowOf a) → r ≡ compareTuples (getD (a .tuples) 0 m) t → r ≡ o → o ≡ compareRows (take 1 (rowOf a)) (t ∷ [])
-first-as a t h e f =
-    let d : 0 < a .depth = omega (arith, length-take (a .depth) (a .tuples)) in
-    let first : getD (a .tuples) 0 m ≡ getD (rowOf a) 0 m = sym (getD-take (a .depth) (a .tuples) 0 m d) in
-    sym f ∙ e ∙ ap (λ (s : Tuple). compareTuples s t) first ∙ first-is (rowOf a) t h

@@ -1,6 +1,5 @@
 // Names of lines and their order. Document 01, "Names"; the definitions are in specs/.
 ghost use mathlib.Core.Path.{_≡_};
-ghost use mathlib.Core.List.{[], _∷_};
 ghost use Prim.Native.Nat.{min, _≤_};
 ghost use lib.ListN.{length};
 ghost use Rattle.names.specs.Names.{limit, rowOf};
@@ -98,7 +97,7 @@ pub fn first_of(a: Order, b: Order) -> Order
 }
 
 // "Tuples compare by position, node, sequence, offset, in that order, offset signed."
-pub fn compare_tuples(s: Tuple, t: Tuple) -> Order
+fn compare_tuples(s: Tuple, t: Tuple) -> Order
     ensures { λ r. ⌜ r ≡ compareTuples s t ⌝ }
 {
     let position = compare_numbers(s.position as u32, t.position as u32);
@@ -155,25 +154,4 @@ pub fn is_below(a: Name, b: Name) -> bool
     ensures { λ r. ⌜ r ≡ isLess (compareRows (rowOf a) (rowOf b)) ⌝ }
 {
     is_less(compare(a, b))
-}
-
-// A name compared with the name of one tuple.
-pub fn compare_to_one(a: Name, t: Tuple) -> Order
-    ensures { λ r. ⌜ r ≡ compareRows (rowOf a) (t ∷ []) ⌝ }
-{
-    let s = a.tuples;
-    let n = tuples_in(a);
-    if n < 1 {
-        return Order::Less;
-    }
-    match compare_tuples(s[0], t) {
-        Order::Less => Order::Less,
-        Order::Same => {
-            if n < 2 {
-                return Order::Same;
-            }
-            Order::More
-        }
-        Order::More => Order::More,
-    }
 }

@@ -5,9 +5,9 @@ ghost use mathlib.Core.List.{[], _∷_, _++_};
 ghost use mathlib.Core.Option.{none, some};
 ghost use mathlib.Core.Bool.{true, cond};
 ghost use Prim.Native.Nat.{_+_, _*_, _≤_};
-ghost use lib.ListN.{length, drop};
-ghost use Rattle.names.specs.Names.{limit, rowOf, valueOf};
-ghost use Rattle.slots.specs.Tuples.{tupleSize, tuplesAt};
+ghost use lib.ListN.{drop};
+ghost use Rattle.names.specs.Names.{rowOf, valueOf};
+ghost use Rattle.slots.specs.Tuples.{rowAt, Within, Lies};
 ghost use Rattle.pages.specs.Pages.{namesOf};
 ghost use Rattle.new_names.specs.NewNames.{firstBefore, firstAfter, rest, own as ownTuple, beforeTuple, closeBy, newName, nameBefore, refuseName, answerName, newNameOutcome, Says};
 use answers::Answer;
@@ -86,8 +86,8 @@ fn wide(x: u16) -> u32
 
 // The position of a's first tuple; a may be missing.
 fn first_before(page: &[u8], a: Span) -> u32
-    requires { ⌜ a .at + tupleSize * a .count ≤ length (now page) ⌝ }
-    ensures { λ r. ⌜ (r ≡ firstBefore (tuplesAt (now (page .entry)) (a .at) (a .count))) × (r ≤ 65535) ⌝ }
+    requires { ⌜ Within (now page) a ⌝ }
+    ensures { λ r. ⌜ (r ≡ firstBefore (rowAt (now (page .entry)) a)) × (r ≤ 65535) ⌝ }
 {
     if a.count < 1 {
         return LOWEST;
@@ -97,8 +97,8 @@ fn first_before(page: &[u8], a: Span) -> u32
 
 // The position of b's first tuple; b may be missing.
 fn first_after(page: &[u8], b: Span) -> u32
-    requires { ⌜ b .at + tupleSize * b .count ≤ length (now page) ⌝ }
-    ensures { λ r. ⌜ (r ≡ firstAfter (tuplesAt (now (page .entry)) (b .at) (b .count))) × (r ≤ 65535) ⌝ }
+    requires { ⌜ Within (now page) b ⌝ }
+    ensures { λ r. ⌜ (r ≡ firstAfter (rowAt (now (page .entry)) b)) × (r ≤ 65535) ⌝ }
 {
     if b.count < 1 {
         return HIGHEST;
@@ -108,8 +108,8 @@ fn first_after(page: &[u8], b: Span) -> u32
 
 // a is a prefix of b: of b's tuples the first, as many as a has, are a's. What follows a are then b's tuples from a's count on.
 fn is_prefix(page: &[u8], a: Span, b: Span) -> bool
-    requires { ⌜ (a .at + tupleSize * a .count ≤ length (now page)) × (b .at + tupleSize * b .count ≤ length (now page)) ⌝ }
-    ensures { λ r. ⌜ rest (tuplesAt (now (page .entry)) (a .at) (a .count)) (tuplesAt (now (page .entry)) (b .at) (b .count)) ≡ cond r (some (drop (a .count) (tuplesAt (now (page .entry)) (b .at) (b .count)))) none ⌝ }
+    requires { ⌜ Within (now page) a × Within (now page) b ⌝ }
+    ensures { λ r. ⌜ rest (rowAt (now (page .entry)) a) (rowAt (now (page .entry)) b) ≡ cond r (some (drop (a .count) (rowAt (now (page .entry)) b))) none ⌝ }
 {
     if b.count < a.count {
         return false;
@@ -124,8 +124,8 @@ fn is_prefix(page: &[u8], a: Span, b: Span) -> bool
 // "If y's position is 2 or more: a·(half that position rounded down, node, sequence, 0). If it is 1 and y's offset is at
 // least 0: a·(y one offset lower)·(32768, node, sequence, 0). Otherwise answer 12."
 fn before_tuple(page: &[u8], a: Span, y: Tuple, author: Author) -> NewName
-    requires { ⌜ (a .count ≤ limit) × (a .at + tupleSize * a .count ≤ length (now page)) ⌝ }
-    ensures { λ r. ⌜ Says r (answerName (beforeTuple author (tuplesAt (now (page .entry)) (a .at) (a .count)) y)) ⌝ }
+    requires { ⌜ Lies (now page) a ⌝ }
+    ensures { λ r. ⌜ Says r (answerName (beforeTuple author (rowAt (now (page .entry)) a) y)) ⌝ }
 {
     if 2 <= y.position {
         return extended(
@@ -147,8 +147,8 @@ fn before_tuple(page: &[u8], a: Span, y: Tuple, author: Author) -> NewName
 
 // "3. Else a·(32768, node, sequence, 0)."
 fn right_after(page: &[u8], a: Span, author: Author) -> NewName
-    requires { ⌜ (a .count ≤ limit) × (a .at + tupleSize * a .count ≤ length (now page)) ⌝ }
-    ensures { λ r. ⌜ Says r (answerName (some (tuplesAt (now (page .entry)) (a .at) (a .count) ++ (ownTuple author 32768 ∷ [])))) ⌝ }
+    requires { ⌜ Lies (now page) a ⌝ }
+    ensures { λ r. ⌜ Says r (answerName (some (rowAt (now (page .entry)) a ++ (ownTuple author 32768 ∷ [])))) ⌝ }
 {
     extended(
         slots::read_row(page, a.at, a.count),
@@ -158,9 +158,8 @@ fn right_after(page: &[u8], a: Span, author: Author) -> NewName
 
 // "2. Else if a is missing or a proper prefix of b, let y be b's first tuple after a."
 fn close_by(page: &[u8], a: Span, b: Span, author: Author) -> NewName
-    requires { ⌜ (a .count ≤ limit) × (a .at + tupleSize * a .count ≤ length (now page)) ⌝ }
-    requires { ⌜ b .at + tupleSize * b .count ≤ length (now page) ⌝ }
-    ensures { λ r. ⌜ Says r (answerName (closeBy author (tuplesAt (now (page .entry)) (a .at) (a .count)) (rest (tuplesAt (now (page .entry)) (a .at) (a .count)) (tuplesAt (now (page .entry)) (b .at) (b .count))))) ⌝ }
+    requires { ⌜ Lies (now page) a × Lies (now page) b ⌝ }
+    ensures { λ r. ⌜ Says r (answerName (closeBy author (rowAt (now (page .entry)) a) (rest (rowAt (now (page .entry)) a) (rowAt (now (page .entry)) b)))) ⌝ }
 {
     if b.count <= a.count {
         return right_after(page, a, author);
@@ -174,9 +173,8 @@ fn close_by(page: &[u8], a: Span, b: Span, author: Author) -> NewName
 
 // "1. If they differ by 2 or more: one tuple, position half their sum rounded down, author's node and sequence, offset 0."
 fn new_between(page: &[u8], a: Span, b: Span, author: Author) -> NewName
-    requires { ⌜ (a .count ≤ limit) × (a .at + tupleSize * a .count ≤ length (now page)) ⌝ }
-    requires { ⌜ b .at + tupleSize * b .count ≤ length (now page) ⌝ }
-    ensures { λ r. ⌜ Says r (answerName (newName author (tuplesAt (now (page .entry)) (a .at) (a .count)) (tuplesAt (now (page .entry)) (b .at) (b .count)))) ⌝ }
+    requires { ⌜ Lies (now page) a × Lies (now page) b ⌝ }
+    ensures { λ r. ⌜ Says r (answerName (newName author (rowAt (now (page .entry)) a) (rowAt (now (page .entry)) b))) ⌝ }
 {
     let low = first_before(page, a);
     let high = first_after(page, b);
@@ -192,8 +190,7 @@ fn new_between(page: &[u8], a: Span, b: Span, author: Author) -> NewName
 
 // Where the name before a gap stands; before the first slot there is none.
 fn span_before(page: &[u8], gap: usize) -> Span
-    ensures { λ r. ⌜ (r .at + tupleSize * r .count ≤ length (now (page .entry))) × (r .count ≤ limit) ⌝ }
-    ensures { λ r. ⌜ tuplesAt (now (page .entry)) (r .at) (r .count) ≡ nameBefore gap (namesOf (now (page .entry))) ⌝ }
+    ensures { λ r. ⌜ Lies (now (page .entry)) r × (rowAt (now (page .entry)) r ≡ nameBefore gap (namesOf (now (page .entry)))) ⌝ }
 {
     if gap < 1 {
         return Span { at: 0, count: 0 };

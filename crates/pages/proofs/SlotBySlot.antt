@@ -3,11 +3,10 @@ use mathlib.Core.Path.{_≡_, refl, _∙_, sym, ap}
 use mathlib.Core.List.{List, [], _∷_, map}
 use mathlib.Core.Bool.{Bool, true, _&&_, and-true}
 use Prim.Native.Nat.{ℕ, zero, suc, _+_, _*_, _-_, _/_, _<_, _≤_, min}
-use native.Mathlib.Nat.{le-of-suc-le-suc, not-suc-le-zero}
 use native.Mathlib.Numerals.{add-one}
 use native.Mathlib.Omega.{arith}
 use lib.ListN.{length, getD, take, drop, drop-of-length-le, length-take, length-drop, length-map, List·getD-map}
-use lib.Seq.{drop-cons, drop-drop, take-all}
+use lib.Seq.{drop-cons, take-all}
 use Rattle.names.specs.declared.Order.{Order}
 use Rattle.names.specs.Ordering.{Row, compareRows, isLess, rising}
 use Rattle.numbers.specs.Bytes.{Bytes}

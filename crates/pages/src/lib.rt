@@ -2,13 +2,12 @@
 // Document 01, "Pages, logs, epochs" and "What comes back"; the definitions are in specs/.
 ghost use mathlib.Core.Path.{_≡_};
 ghost use mathlib.Core.Bool.{true};
-ghost use Prim.Native.Nat.{_≤_, _+_};
+ghost use Prim.Native.Nat.{_+_};
 ghost use mathlib.Core.List.{[]};
 ghost use lib.ListN.{length, getD};
 ghost use Rattle.names.specs.Names.{rowOf};
 ghost use Rattle.slots.specs.Tuples.{rowAt, Lies};
 ghost use Rattle.numbers.specs.Lists.{every};
-ghost use Rattle.numbers.specs.Bytes.{put};
 ghost use Rattle.slots.specs.Slots.{slotSize, nameOf, keepsSlot};
 ghost use Rattle.pages.specs.Pages.{partsOf, slotsOf, namesOf, rises, lineIsZero, keepsLayout, isLog, checkPage, checkLog};
 ghost use Rattle.pages.specs.Places.{placeOf};

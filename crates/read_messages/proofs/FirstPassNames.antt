@@ -3,7 +3,7 @@
 use mathlib.Core.Path.{_≡_, refl, sym, ap, _∙_}
 use mathlib.Core.List.{List, [], _∷_}
 use mathlib.Core.Bool.{Bool, true, false, _&&_, and-false}
-use Prim.Native.Nat.{ℕ, _+_, _*_, _-_, _<_, _≤_}
+use Prim.Native.Nat.{ℕ, _+_, _-_, _<_, _≤_}
 use native.Mathlib.Omega.{arith}
 use lib.ListN.{length, drop}
 use Rattle.names.specs.Ordering.{Row, compareRows, isLess, rising}
@@ -11,7 +11,7 @@ use Rattle.names.specs.Names.{isName}
 use Rattle.numbers.specs.Bytes.{Bytes}
 use Rattle.numbers.specs.Lists.{every}
 use Rattle.slots.specs.declared.Span.{Span}
-use Rattle.slots.specs.Tuples.{tupleSize, tuplesAt}
+use Rattle.slots.specs.Tuples.{rowAt, Within}
 use Rattle.pages.proofs.SlotBySlot.{rising-cons}
 use Rattle.fields.specs.Fields.{fieldHead, sizeIn}
 use Rattle.messages.specs.Messages.{nameFits, nameStands, tuplesIn, namesWithin, afterNames}
@@ -47,8 +47,8 @@ module _ (b a : Row) (l : List Row) where
 pub record Passing (s : Bytes) (c most : ℕ) (b : Span) (p k : ℕ) : Type 0 where
   pub few : k ≤ most
   pub within : p ≤ length s
-  pub room : b .at + tupleSize * b .count ≤ length s
-  pub good : goodAfter (tuplesAt s (b .at) (b .count)) (namesWithin (most - k) (drop p s)) ≡ goodNames (namesWithin most (drop c s))
+  pub room : Within s b
+  pub good : goodAfter (rowAt s b) (namesWithin (most - k) (drop p s)) ≡ goodNames (namesWithin most (drop c s))
   pub count : k + length (namesWithin (most - k) (drop p s)) ≡ length (namesWithin most (drop c s))
   pub rest : afterNames (most - k) (drop p s) ≡ afterNames most (drop c s)
 
@@ -67,7 +67,7 @@ passing-first s c most h =
 
 module _ {s : Bytes} {c most : ℕ} {b : Span} {p k : ℕ} (v : Passing s c most b p k) where
   abbrev last : Row
-  last = tuplesAt s (b .at) (b .count)
+  last = rowAt s b
 
   -- no name stands there, or there were enough
   pub passing-end : namesWithin (most - k) (drop p s) ≡ [] → afterNames (most - k) (drop p s) ≡ drop p s
@@ -81,12 +81,12 @@ module _ {s : Bytes} {c most : ℕ} {b : Span} {p k : ℕ} (v : Passing s c most
   )
 
   -- the name whose field stands there stands at a
-  module _ (h : k < most) (e : nameStands (drop p s) ≡ true) (a : Span) (t : tuplesAt s (a .at) (a .count) ≡ tuplesIn (drop p s)) where
+  module _ (h : k < most) (e : nameStands (drop p s) ≡ true) (a : Span) (t : rowAt s a ≡ tuplesIn (drop p s)) where
     abbrev after : List Row
     after = namesWithin (most - (k + 1)) (drop (p + (fieldHead + sizeIn (drop p s))) s)
 
     abbrev here : Row
-    here = tuplesAt s (a .at) (a .count)
+    here = rowAt s a
 
     next : namesWithin (most - k) (drop p s) ≡ here ∷ after
     next = names-next s p most k h e ∙ ap (λ (r : Row). r ∷ after) (sym t)
@@ -94,15 +94,15 @@ module _ {s : Bytes} {c most : ℕ} {b : Span} {p k : ℕ} (v : Passing s c most
     turn : goodAfter last (here ∷ after) ≡ goodNames (namesWithin most (drop c s))
     turn = sym (ap (goodAfter last) next) ∙ v .good
 
-    pub passing-unfit : nameFits (tuplesAt s (a .at) (a .count)) ≡ false → false ≡ goodNames (namesWithin most (drop c s))
+    pub passing-unfit : nameFits (rowAt s a) ≡ false → false ≡ goodNames (namesWithin most (drop c s))
     passing-unfit f = sym (good-unfit last here after f) ∙ turn
 
-    pub passing-falls : isLess (compareRows (tuplesAt s (b .at) (b .count)) (tuplesAt s (a .at) (a .count))) ≡ false
+    pub passing-falls : isLess (compareRows (rowAt s b) (rowAt s a)) ≡ false
         → false ≡ goodNames (namesWithin most (drop c s))
     passing-falls g = sym (good-falls last here after g) ∙ turn
 
-    pub passing-on : a .at + tupleSize * a .count ≤ length s → nameFits (tuplesAt s (a .at) (a .count)) ≡ true
-        → isLess (compareRows (tuplesAt s (b .at) (b .count)) (tuplesAt s (a .at) (a .count))) ≡ true
+    pub passing-on : Within s a → nameFits (rowAt s a) ≡ true
+        → isLess (compareRows (rowAt s b) (rowAt s a)) ≡ true
         → Passing s c most a (p + (fieldHead + sizeIn (drop p s))) (k + 1)
     passing-on r f g = record {
       few = omega arith;

@@ -10,7 +10,7 @@ ghost use Rattle.names.specs.Names.{rowOf};
 ghost use Rattle.names.specs.Ordering.{compareRows, isLess};
 ghost use Rattle.numbers.specs.Bytes.{at32, put};
 ghost use Rattle.numbers.specs.Lists.{every};
-ghost use Rattle.slots.specs.Tuples.{tupleSize, tuplesAt};
+ghost use Rattle.slots.specs.Tuples.{rowAt, Within};
 ghost use Rattle.slots.specs.Slots.{slotSize};
 ghost use Rattle.answers.specs.Answers.{ask, leaves};
 ghost use Rattle.pages.specs.Pages.{pieces};
@@ -63,8 +63,7 @@ fn name_stands(message: &[u8], cursor: Cursor) -> bool
 // Where the tuples of the name stand whose field stands at the cursor.
 fn span_in(message: &[u8], cursor: Cursor) -> Span
     requires { ⌜ nameStands (drop (cursor .at) (now message)) ≡ true ⌝ }
-    ensures { λ r. ⌜ r .at + tupleSize * r .count ≤ length (now (message .entry)) ⌝ }
-    ensures { λ r. ⌜ tuplesAt (now (message .entry)) (r .at) (r .count) ≡ tuplesIn (drop (cursor .at) (now (message .entry))) ⌝ }
+    ensures { λ r. ⌜ Within (now (message .entry)) r × (rowAt (now (message .entry)) r ≡ tuplesIn (drop (cursor .at) (now (message .entry)))) ⌝ }
 {
     let at = cursor.at + FIELD;
     let count = fields::size_at(message, cursor) / TUPLE;
@@ -73,8 +72,8 @@ fn span_in(message: &[u8], cursor: Cursor) -> Span
 
 // The tuples are 1 to 8 and are a name.
 fn name_fits(message: &[u8], tuples: Span) -> bool
-    requires { ⌜ tuples .at + tupleSize * tuples .count ≤ length (now message) ⌝ }
-    ensures { λ r. ⌜ r ≡ nameFits (tuplesAt (now (message .entry)) (tuples .at) (tuples .count)) ⌝ }
+    requires { ⌜ Within (now message) tuples ⌝ }
+    ensures { λ r. ⌜ r ≡ nameFits (rowAt (now (message .entry)) tuples) ⌝ }
 {
     if tuples.count < 1 {
         return false;
@@ -194,8 +193,8 @@ struct Passed {
 
 // "rising": the first name is below the second, compared where they stand in the message.
 fn rises(message: &[u8], first: Span, second: Span) -> bool
-    requires { ⌜ (first .at + tupleSize * first .count ≤ length (now message)) × (second .at + tupleSize * second .count ≤ length (now message)) ⌝ }
-    ensures { λ r. ⌜ r ≡ isLess (compareRows (tuplesAt (now (message .entry)) (first .at) (first .count)) (tuplesAt (now (message .entry)) (second .at) (second .count))) ⌝ }
+    requires { ⌜ Within (now message) first × Within (now message) second ⌝ }
+    ensures { λ r. ⌜ r ≡ isLess (compareRows (rowAt (now (message .entry)) first) (rowAt (now (message .entry)) second)) ⌝ }
 {
     names::is_less(slots::compare_rows(
         message,

@@ -6,17 +6,16 @@ use mathlib.Core.List.{[], _∷_}
 use Prim.Native.Nat.{ℕ, _+_, _*_, _-_, _%_, _<_, _≤_}
 use native.Mathlib.Decide.{decLt}
 use native.Mathlib.Omega.{arith}
-use lib.IntN.{pos, negsuc}
-use lib.ListN.{length, take, drop, getD}
+use lib.ListN.{length, drop, getD}
 use lib.Seq.{take-all}
 use Rattle.names.specs.declared.Tuple.{Tuple}
 use Rattle.names.specs.declared.Order.{Order}
 use Rattle.names.specs.declared.Order.the-variants.{Less, Same, More}
-use Rattle.names.specs.Ordering.{Row, compareℕ, compareℤ, then, compareTuples, compareRows}
+use Rattle.names.specs.Ordering.{compareℕ, compareℤ, then, compareTuples, compareRows}
 use Rattle.names.specs.Names.{m}
 use Rattle.names.proofs.Laws.{ℕ-less, ℕ-same, ℕ-more, ℕ-cases}
 use Rattle.names.proofs.CompareTuples.{left, left-same as both-ended, left-less as first-ended, left-more as second-ended, left-at as turn, to-one}
-use Rattle.numbers.specs.Bytes.{Bytes, Octets, at16, at32, at64, signed, unsigned}
+use Rattle.numbers.specs.Bytes.{Bytes, Octets, at32, at64, signed, unsigned}
 use Rattle.numbers.proofs.ReadNumbers.{fits16, fits32, signed-pos, signed-neg}
 use Rattle.numbers.proofs.TwosComplement.{Word, signed-unsigned, unsigned-fits}
 use Rattle.slots.specs.Tuples.{tupleAt, tuplesAt, tupleSize}

@@ -9,7 +9,6 @@ use Rattle.slots.proofs.read_row.Reads as read-row
 use Rattle.slots.proofs.depth.Reads as depth
 use Rattle.slots.proofs.read_line.Reads as read-line
 use Rattle.slots.proofs.read_name.Reads as read-name
-use Rattle.slots.proofs.compare_tuple.Reads as compare-tuple
 use Rattle.slots.proofs.compare_rows.Reads as compare-rows
 use Rattle.slots.proofs.compare_to_one.Reads as compare-to-one
 use Rattle.slots.proofs.compare_slots.Reads as compare-slots
@@ -33,9 +32,6 @@ read-line-settled κs a r s r' s' p q = one p q
 
 pub read-name-settled : (κs : _) (a : _) (r : _) (s : _) (r' : _) (s' : _) → read-name.Learnt κs a r s → read-name.Learnt κs a r' s' → rowOf r ≡ rowOf r'
 read-name-settled κs a r s r' s' p q = one p q
-
-pub compare-tuple-settled : (κs : _) (a : _) (r : _) (s : _) (r' : _) (s' : _) → compare-tuple.Learnt κs a r s → compare-tuple.Learnt κs a r' s' → r ≡ r'
-compare-tuple-settled κs a r s r' s' p q = one p q
 
 pub compare-rows-settled : (κs : _) (a : _) (r : _) (s : _) (r' : _) (s' : _) → compare-rows.Learnt κs a r s → compare-rows.Learnt κs a r' s' → r ≡ r'
 compare-rows-settled κs a r s r' s' p q = one p q

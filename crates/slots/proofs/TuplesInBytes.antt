@@ -1,12 +1,11 @@
 -- Tuples one after the other in a row of bytes. Assumes nothing.
 use mathlib.Core.Path.{_≡_, refl, _∙_, sym, ap}
-use mathlib.Core.List.{List, _∷_}
+use mathlib.Core.List.{_∷_}
 use Prim.Native.Nat.{ℕ, zero, suc, _+_, _-_, _*_, _<_, _≤_}
 use native.Mathlib.Nat.{le-of-suc-le-suc, not-suc-le-zero}
 use native.Mathlib.Omega.{arith}
-use borrow.Author.Count.{below-more}
-use lib.ListN.{length, getD, set, take, drop}
-use lib.Seq.{getD-set-same, getD-set-other, getD-take, length-take-le, ext-getD}
+use lib.ListN.{length, getD, take, drop}
+use lib.Seq.{getD-take, length-take-le, ext-getD}
 use Rattle.names.specs.Ordering.{Row}
 use Rattle.names.specs.Names.{m}
 use Rattle.numbers.specs.Bytes.{Bytes, signed}

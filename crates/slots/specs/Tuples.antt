@@ -31,9 +31,13 @@ tuplesAt s p (suc n) = tupleAt s p ∷ tuplesAt s (p + tupleSize) n
 abbrev pub rowAt : Bytes → Span → Row
 rowAt s x = tuplesAt s (x .at) (x .count)
 
--- it lies within the bytes, and has no more tuples than a name
+-- it lies within the bytes ..
+abbrev pub Within : Bytes → Span → Type 0
+Within s x = x .at + tupleSize * x .count ≤ length s
+
+-- .. and has no more tuples than a name
 abbrev pub Lies : Bytes → Span → Type 0
-Lies s x = (x .at + tupleSize * x .count ≤ length s) × (x .count ≤ limit)
+Lies s x = Within s x × (x .count ≤ limit)
 
 -- ── to bytes ──
 

@@ -2,13 +2,13 @@
 // Document 01, "Pages, logs, epochs"; the definitions are in specs/.
 ghost use mathlib.Core.Path.{_≡_};
 ghost use mathlib.Core.Bool.{_||_};
-ghost use Prim.Native.Nat.{_+_, _*_, _/_, _%_, _≤_, _<_, min};
+ghost use Prim.Native.Nat.{_+_, _*_, _%_, _≤_, _<_, min};
 ghost use mathlib.Core.List.{[], _∷_};
-ghost use lib.ListN.{length, take, drop, getD, replicate};
+ghost use lib.ListN.{length, take, drop};
 ghost use lib.IntN.{pos, negsuc};
 ghost use Rattle.names.specs.Ordering.{compareℕ, then, compareTuples, compareRows};
 ghost use Rattle.names.specs.Names.{limit, rowOf, ordinary, ordinaryFrom, marker, isName, withinℤ};
-ghost use Rattle.numbers.specs.Bytes.{at16, at32, at64, signed, unsigned, allZero, bytes32, put};
+ghost use Rattle.numbers.specs.Bytes.{signed, allZero, put};
 ghost use Rattle.slots.specs.Tuples.{tupleAt, tuplesAt, tupleSize, tupleBytes, rowBytes};
 ghost use Rattle.slots.specs.Slots.{headSize, slotSize, depthOf, lineOf, nameOf, keepsSlot, slotBytes};
 use names::LIMIT;
@@ -151,7 +151,7 @@ fn compare_tuples(a: &[u8], p: usize, b: &[u8], q: usize) -> Order
 }
 
 // The tuple that stands at p, compared with t.
-pub fn compare_tuple(a: &[u8], p: usize, t: Tuple) -> Order
+fn compare_tuple(a: &[u8], p: usize, t: Tuple) -> Order
     requires { ⌜ p + tupleSize ≤ length (now a) ⌝ }
     ensures { λ r. ⌜ r ≡ compareTuples (tupleAt (now (a .entry)) p) t ⌝ }
 {

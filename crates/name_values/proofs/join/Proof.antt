@@ -35,7 +35,7 @@ empty-requires-2 : tie.Need-empty-requires-2
 empty-requires-2 c κs = search needs
 
 append-requires : tie.Need-append-requires
-append-requires c κs = let l = ap length (row-of [] (c .empty2 .ensures)) in (value-of [] (c .empty2 .ensures), omega arith, omega arith)
+append-requires c κs = let l = ap length (row-of [] (c .empty2 .ensures)) in (value-of [] (c .empty2 .ensures), omega arith)
 
 append-requires-2 : tie.Need-append-requires-2
 append-requires-2 c κs =
@@ -44,7 +44,7 @@ append-requires-2 c κs =
     let a = rowOf (start .args .a) in
     let e = c .append .ensures ∙ ap (λ (r : Row). valueOf (r ++ a)) (row-of [] (after-empty2 .empty2 .ensures)) in
     let l = ap length (row-of a e) in
-    (value-of a e, omega arith, omega arith)
+    (value-of a e, omega arith)
 
 returns-2 : tie.Need-returns-2
 returns-2 c =

@@ -41,7 +41,7 @@ empty-requires-2 : tie.Need-empty-requires-2
 empty-requires-2 c κs = search needs
 
 append-requires : tie.Need-append-requires
-append-requires c κs = let l = ap length (row-of [] (c .empty2 .ensures)) in (value-of [] (c .empty2 .ensures), omega arith, omega arith)
+append-requires c κs = let l = ap length (row-of [] (c .empty2 .ensures)) in (value-of [] (c .empty2 .ensures), omega arith)
 
 push-requires : tie.Need-push-requires
 push-requires c κs =
@@ -62,7 +62,7 @@ append-requires-2 c κs =
     let e = first a (after-empty2 .empty2 .ensures) (after-append .append .ensures) in
     let f = c .push .ensures ∙ ap (λ (r : Row). valueOf (r ++ (x .t ∷ []))) (row-of a e) in
     let l = ap length (row-of (a ++ (x .t ∷ [])) f) ∙ length-append a (x .t ∷ []) in
-    (value-of (a ++ (x .t ∷ [])) f, omega arith, omega arith)
+    (value-of (a ++ (x .t ∷ [])) f, omega arith)
 
 returns-2 : tie.Need-returns-2
 returns-2 c =

@@ -10,7 +10,7 @@ use mir.Syntax.{w32}
 use mir.ValLaws.{toZ-ofZ}
 use Rattle.names.specs.declared.Tuple.{Tuple}
 use Rattle.names.specs.Ordering.{Row}
-use Rattle.slots.specs.Tuples.{tuplesAt}
+use Rattle.slots.specs.Tuples.{rowAt}
 use Rattle.name_values.proofs.JoinedRows.{row-of}
 use Rattle.new_names.proofs.Rules.{given, half, lower, no-position, no-offset}
 use borrow.Author.Needs.{needs}
@@ -19,7 +19,7 @@ use Rattle.new_names.proofs.before_tuple.Tie as tie
 
 -- the tuples of a, where they stand
 abbrev row : tie.Start → Row
-row s = tuplesAt (now (s .args .page)) (s .args .a .at) (s .args .a .count)
+row s = rowAt (now (s .args .page)) (s .args .a)
 
 read-row-requires : tie.Need-read-row-requires
 read-row-requires c κs = search needs

@@ -4,7 +4,7 @@ use mathlib.Core.Path.{_∙_, sym}
 use borrow.Author.Tests.{not-true, not-false}
 use denote.Ref.{now}
 use lib.ListN.{length}
-use Rattle.slots.specs.Tuples.{tuplesAt}
+use Rattle.slots.specs.Tuples.{rowAt}
 use Rattle.slots.proofs.TuplesInBytes.{length-tuplesAt, getD-tuplesAt}
 use Rattle.new_names.proofs.Rules.{given, close-short, close-apart, close-before}
 use borrow.Author.Needs.{needs}
@@ -21,8 +21,8 @@ returns c =
     let s = now (start .args .page) in
     let x = start .args .a in
     let y = start .args .b in
-    let a = tuplesAt s (x .at) (x .count) in
-    let b = tuplesAt s (y .at) (y .count) in
+    let a = rowAt s x in
+    let b = rowAt s y in
     let h : length b ≤ length a = rw (length-tuplesAt s (x .at) (x .count), length-tuplesAt s (y .at) (y .count)) (then1 .if1 .taken) in
     given (c .right-after .result) (close-short (start .args .author) a b h) (c .right-after .ensures)
 
@@ -40,8 +40,8 @@ returns-2 c =
     let s = now (start .args .page) in
     let x = start .args .a in
     let y = start .args .b in
-    let a = tuplesAt s (x .at) (x .count) in
-    let b = tuplesAt s (y .at) (y .count) in
+    let a = rowAt s x in
+    let b = rowAt s y in
     let p = after-is-prefix .is-prefix in
     let g = close-apart (start .args .author) a b (x .count) (p .ensures) (not-true (p .result) (then2 .if2 .taken)) in
     given (c .right-after2 .result) g (c .right-after2 .ensures)
@@ -68,8 +68,8 @@ returns-3 c =
     let s = now (start .args .page) in
     let x = start .args .a in
     let y = start .args .b in
-    let a = tuplesAt s (x .at) (x .count) in
-    let b = tuplesAt s (y .at) (y .count) in
+    let a = rowAt s x in
+    let b = rowAt s y in
     let p = after-is-prefix .is-prefix in
     let f = not-false (p .result) (else2 .if2 .left) in
     let h : x .count < length b = rw (length-tuplesAt s (y .at) (y .count)) (else1 .if1 .left) in

@@ -6,7 +6,7 @@ use mathlib.Core.List.{[], _∷_}
 use denote.Ref.{now}
 use Rattle.names.specs.declared.Tuple.{Tuple}
 use Rattle.names.specs.Names.{valueOf}
-use Rattle.slots.specs.Tuples.{tuplesAt}
+use Rattle.slots.specs.Tuples.{rowAt}
 use Rattle.answers.specs.declared.Answer.the-variants.{Accepted}
 use Rattle.new_names.specs.NewNames.{firstBefore, firstAfter, own}
 use Rattle.new_names.proofs.Rules.{given, new-apart, new-close}
@@ -41,8 +41,8 @@ returns c =
     let after-first-after : tie.After-first-after = search needs in
     let after-first-before : tie.After-first-before = search needs in
     let start : tie.Start = search needs in
-    let a = tuplesAt (now (start .args .page)) (start .args .a .at) (start .args .a .count) in
-    let b = tuplesAt (now (start .args .page)) (start .args .b .at) (start .args .b .count) in
+    let a = rowAt (now (start .args .page)) (start .args .a) in
+    let b = rowAt (now (start .args .page)) (start .args .b) in
     let author = start .args .author in
     let h : firstBefore a + 2 ≤ firstAfter b = omega arith in
     let low = after-first-before .first-before in
@@ -57,8 +57,8 @@ close-by-requires c κs = search needs
 returns-2 : tie.Need-returns-2
 returns-2 c =
     let start : tie.Start = search needs in
-    let a = tuplesAt (now (start .args .page)) (start .args .a .at) (start .args .a .count) in
-    let b = tuplesAt (now (start .args .page)) (start .args .b .at) (start .args .b .count) in
+    let a = rowAt (now (start .args .page)) (start .args .a) in
+    let b = rowAt (now (start .args .page)) (start .args .b) in
     let h : firstAfter b < firstBefore a + 2 = omega arith in
     given (c .close-by .result) (new-close (start .args .author) a b h) (c .close-by .ensures)
 

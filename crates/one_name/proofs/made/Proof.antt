@@ -1,9 +1,7 @@
 -- `one_name::made` meets its contract. Assumes nothing.
-use mathlib.Core.Path.{_≡_, _∙_, sym, ap, subst}
-use mathlib.Core.List.{[], _∷_, _++_}
-use Prim.Native.Nat.{ℕ}
+use mathlib.Core.Path.{_∙_, sym, ap, subst}
+use mathlib.Core.List.{_∷_, _++_}
 use denote.Ref.{now}
-use lib.ListN.{getD}
 use Rattle.names.specs.Names.{isName, oneBelow, m, M}
 use Rattle.pages.specs.Pages.{namesOf}
 use Rattle.name_values.proofs.GivenRows.{gives}
