@@ -1,6 +1,7 @@
 -- What the code finds before it makes a name: whether a case of 01's table puts a tuple before the name, and in which of four shapes 01's
 -- bullets of taking back end. Document 01, "Renaming one name" and "Taking it back".
 use Prim.Native.Nat.{_<_}
+use mathlib.Core.Path.{_≡_}
 use mathlib.Core.List.{List, [], _∷_, _++_}
 use mathlib.Core.Bool.{Bool, true, false}
 use lib.ListN.{length, getD}
@@ -36,3 +37,7 @@ module _ (s : Bytes) (log : List Row) where
   Stands (Own v) = Lies s v
   Stands (Behind k v) = (k < length log) × Lies s v
   Stands (Ahead k v) = (k < length log) × Lies s v
+
+  -- it stands there, and its name is a
+  abbrev pub Means : Back → Row → Type 0
+  Means b a = Stands b × (shaped b ≡ a)

@@ -13,7 +13,7 @@ ghost use Rattle.slots.specs.Tuples.{tupleSize, rowAt, Lies};
 ghost use Rattle.pages.specs.Pages.{maxSlots, namesOf, rises, isLog};
 ghost use Rattle.pages.specs.Places.{below, placeOf};
 ghost use Rattle.name_renames.specs.Renaming.{firstPosition, lead as leadTuple, N, caseOf, ifBelow, rename as renameRow, under as underRow, over as overRow, backBetween, stripBelow, stripAbove, takeBack as takeBackRow};
-ghost use Rattle.one_name.specs.Backs.{gains as gainsOne, shaped, Stands};
+ghost use Rattle.one_name.specs.Backs.{gains as gainsOne, shaped, Stands, Means};
 use name_renames::Case;
 use names::Author;
 use names::Joined;
@@ -70,15 +70,7 @@ fn stand(x: Name, bytes: &mut [u8]) -> Span
     Span { at: 0, count }
 }
 
-// A name that stands in s is below the name of one tuple.
-fn is_below(s: &[u8], x: Span, t: Tuple) -> bool
-    requires { ⌜ Lies (now s) x ⌝ }
-    ensures { λ r. ⌜ r ≡ isLess (compareRows (rowAt (now (s .entry)) x) (t ∷ [])) ⌝ }
-{
-    names::is_less(slots::compare_to_one(s, x.at, x.count, t))
-}
-
-// A name as it stands.
+// A name by value, as it is.
 fn whole(x: Name) -> Joined
     ensures { λ r. ⌜ Gives r (rowOf x) ⌝ }
 {
@@ -94,14 +86,6 @@ fn kept(s: &[u8], x: Span) -> Joined
     ensures { λ r. ⌜ Gives r (rowAt (now (s .entry)) x) ⌝ }
 {
     whole(slots::read_row(s, x.at, x.count))
-}
-
-// The tuple t, then a name that stands in s.
-fn led(t: Tuple, s: &[u8], x: Span) -> Joined
-    requires { ⌜ Lies (now s) x ⌝ }
-    ensures { λ r. ⌜ Gives r (t ∷ rowAt (now (s .entry)) x) ⌝ }
-{
-    name_values::join_by(name_values::empty(), t, slots::read_row(s, x.at, x.count))
 }
 
 // ── renaming one name: the case ──
@@ -206,6 +190,14 @@ pub fn gains(case: Case) -> bool
 
 // ── renaming one name ──
 
+// The tuple t, then a name that stands in s.
+fn led(t: Tuple, s: &[u8], x: Span) -> Joined
+    requires { ⌜ Lies (now s) x ⌝ }
+    ensures { λ r. ⌜ Gives r (t ∷ rowAt (now (s .entry)) x) ⌝ }
+{
+    name_values::join_by(name_values::empty(), t, slots::read_row(s, x.at, x.count))
+}
+
 // What that case makes of x.
 pub fn renamed_by(log: &[u8], author: Author, case: Case, s: &[u8], x: Span) -> Joined
     requires { ⌜ (isLog (now log) ≡ true) × Lies (now s) x × (case ≡ caseOf (firstPosition (namesOf (now log))) author (namesOf (now log)) (rowAt (now s) x)) ⌝ }
@@ -248,6 +240,14 @@ pub enum Back {
     Ahead(usize, Span),
 }
 
+// A name that stands in s is below the name of one tuple.
+fn is_below(s: &[u8], x: Span, t: Tuple) -> bool
+    requires { ⌜ Lies (now s) x ⌝ }
+    ensures { λ r. ⌜ r ≡ isLess (compareRows (rowAt (now (s .entry)) x) (t ∷ [])) ⌝ }
+{
+    names::is_less(slots::compare_to_one(s, x.at, x.count, t))
+}
+
 // A name that stands in s is above the name of one tuple.
 fn is_above(s: &[u8], x: Span, t: Tuple) -> bool
     requires { ⌜ Lies (now s) x ⌝ }
@@ -284,7 +284,7 @@ fn tail(s: &[u8], x: Span) -> Span
 // "If v is below r0 the result is v, else one below r0, then M, then v", with r(k) for r0.
 fn under(log: &[u8], k: usize, s: &[u8], v: Span) -> Back
     requires { ⌜ (k < length (namesOf (now log))) × Lies (now s) v ⌝ }
-    ensures { λ r. ⌜ Stands (now (s .entry)) (namesOf (now (log .entry))) r × (shaped (now (s .entry)) (namesOf (now (log .entry))) r ≡ underRow (getD (namesOf (now (log .entry))) k []) (rowAt (now (s .entry)) v)) ⌝ }
+    ensures { λ r. ⌜ Means (now (s .entry)) (namesOf (now (log .entry))) r (underRow (getD (namesOf (now (log .entry))) k []) (rowAt (now (s .entry)) v)) ⌝ }
 {
     let r = pages::span_of(log, k);
     match slots::compare_rows(s, v.at, v.count, log, r.at, r.count) {
@@ -297,7 +297,7 @@ fn under(log: &[u8], k: usize, s: &[u8], v: Span) -> Back
 // "If v is above r(n−1) the result is v, else r(n−1)·m·v"; k is n − 1.
 fn over(log: &[u8], k: usize, s: &[u8], v: Span) -> Back
     requires { ⌜ (k < length (namesOf (now log))) × Lies (now s) v ⌝ }
-    ensures { λ r. ⌜ Stands (now (s .entry)) (namesOf (now (log .entry))) r × (shaped (now (s .entry)) (namesOf (now (log .entry))) r ≡ overRow (getD (namesOf (now (log .entry))) k []) (rowAt (now (s .entry)) v) (rowAt (now (s .entry)) v)) ⌝ }
+    ensures { λ r. ⌜ Means (now (s .entry)) (namesOf (now (log .entry))) r (overRow (getD (namesOf (now (log .entry))) k []) (rowAt (now (s .entry)) v) (rowAt (now (s .entry)) v)) ⌝ }
 {
     let r = pages::span_of(log, k);
     match slots::compare_rows(s, v.at, v.count, log, r.at, r.count) {
@@ -311,7 +311,7 @@ fn over(log: &[u8], k: usize, s: &[u8], v: Span) -> Back
 // then M, then t. Otherwise t."
 fn between(log: &[u8], k: usize, s: &[u8], t: Span) -> Back
     requires { ⌜ (k + 1 < length (namesOf (now log))) × Lies (now s) t ⌝ }
-    ensures { λ r. ⌜ Stands (now (s .entry)) (namesOf (now (log .entry))) r × (shaped (now (s .entry)) (namesOf (now (log .entry))) r ≡ backBetween (getD (namesOf (now (log .entry))) k []) (getD (namesOf (now (log .entry))) (k + 1) []) (rowAt (now (s .entry)) t)) ⌝ }
+    ensures { λ r. ⌜ Means (now (s .entry)) (namesOf (now (log .entry))) r (backBetween (getD (namesOf (now (log .entry))) k []) (getD (namesOf (now (log .entry))) (k + 1) []) (rowAt (now (s .entry)) t)) ⌝ }
 {
     let r = pages::span_of(log, k);
     match slots::compare_rows(s, t.at, t.count, log, r.at, r.count) {
@@ -371,7 +371,7 @@ fn index_of(s: &[u8], c: Span) -> usize
 fn back_within(log: &[u8], author: Author, s: &[u8], c: Span) -> Back
     requires { ⌜ (isLog (now log) ≡ true) × Lies (now s) c ⌝ }
     requires { ⌜ (N (firstPosition (namesOf (now log))) author 0 ≤ⁿ rowAt (now s) c) × (rowAt (now s) c ≤ⁿ N (firstPosition (namesOf (now log))) author (length (namesOf (now log)) - 1)) ⌝ }
-    ensures { λ r. ⌜ Stands (now (s .entry)) (namesOf (now (log .entry))) r × (shaped (now (s .entry)) (namesOf (now (log .entry))) r ≡ takeBackRow author (namesOf (now (log .entry))) (rowAt (now (s .entry)) c)) ⌝ }
+    ensures { λ r. ⌜ Means (now (s .entry)) (namesOf (now (log .entry))) r (takeBackRow author (namesOf (now (log .entry))) (rowAt (now (s .entry)) c)) ⌝ }
 {
     let k = index_of(s, c);
     if c.count < 2 {
@@ -383,7 +383,7 @@ fn back_within(log: &[u8], author: Author, s: &[u8], c: Span) -> Back
 // What becomes of c, a name that stands in s.
 pub fn back_of(log: &[u8], author: Author, s: &[u8], c: Span) -> Back
     requires { ⌜ (isLog (now log) ≡ true) × Lies (now s) c ⌝ }
-    ensures { λ r. ⌜ Stands (now (s .entry)) (namesOf (now (log .entry))) r × (shaped (now (s .entry)) (namesOf (now (log .entry))) r ≡ takeBackRow author (namesOf (now (log .entry))) (rowAt (now (s .entry)) c)) ⌝ }
+    ensures { λ r. ⌜ Means (now (s .entry)) (namesOf (now (log .entry))) r (takeBackRow author (namesOf (now (log .entry))) (rowAt (now (s .entry)) c)) ⌝ }
 {
     let p = first_position(log);
     if is_below(s, c, lead(p, author, 0)) {

@@ -1,5 +1,6 @@
--- Tuples compared in two pieces: position, node and sequence as one number, and the offset raised by 2³¹ (`packed`); so of tuples that
--- stand in bytes (`both-at`, `one-at`). What is left of a comparison of rows in bytes (`left-from` and the laws after it). Assumes nothing.
+-- Tuples compared in two pieces, position, node and sequence as one number and the offset raised by 2³¹ (`packed`), of tuples in bytes
+-- (`held-at`, `front-at`) and by value (`held-by`). What is left of a comparison of two rows in bytes (`left-all`, `left-same`, `left-less`,
+-- `left-more`, `left-at`), and of one with a tuple (`first-tuple`). Assumes nothing.
 use mathlib.Core.Path.{_≡_, refl, _∙_, sym, ap}
 use mathlib.Core.Logic.{inl, inr}
 use mathlib.Core.List.{[], _∷_}
