@@ -1,4 +1,4 @@
-// Pages and logs as bytes: the checks of a page, a log and a slot, and finding a name.
+// Pages and logs as bytes: the checks of a page, a log and a slot, where a slot's name stands, and finding a name.
 // Document 01, "Pages, logs, epochs" and "What comes back"; the definitions are in specs/.
 ghost use mathlib.Core.Path.{_≡_};
 ghost use mathlib.Core.Bool.{true};

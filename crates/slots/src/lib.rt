@@ -1,4 +1,4 @@
-// Slots as bytes: numbers, tuples and names read where they stand, the check of a slot's layout, and a slot written.
+// Slots as bytes: tuples and names read and compared where they stand, the check of a slot's layout, and a slot written.
 // Document 01, "Pages, logs, epochs"; the definitions are in specs/.
 ghost use mathlib.Core.Path.{_≡_};
 ghost use mathlib.Core.Bool.{_||_};
