@@ -18,16 +18,14 @@ use Rattle.names.specs.declared.Tuple.{Tuple}
 use Rattle.names.specs.declared.Order.{Order}
 use Rattle.names.specs.declared.Order.the-variants.{Less, Same, More}
 use Rattle.names.specs.Ordering.{Row, compareTuples, isSame, _<ᶻ_, up, across, _<ᵗ_, position, _<ⁿ_, ends, differ, Rising}
-use Rattle.names.specs.Names.{fits, isName, lowered}
+use Rattle.names.specs.Names.{fits, lowered}
 use Rattle.names.proofs.Laws.{Before, prefix, apart, before, Tri, level, triT, tuple-same, <ⁿ-irrefl, ++-prefix, ++-left, lowered-below, rising-Rising}
 use Rattle.names.proofs.Validity.{Allowed, Ordinary, Middle, plain, marker-m, marker-M, Ends, final, onward, Valid, valid, valid-name, valid-ends, ends-middle, lowered-ordinary}
 use Rattle.numbers.specs.Bytes.{Bytes}
-use Rattle.numbers.specs.Lists.{every}
 use Rattle.answers.specs.declared.Answer.the-variants.{Accepted}
 use Rattle.pages.specs.declared.Place.the-variants.{Here, Gap}
-use Rattle.answers.specs.declared.Refusal.{Refusal}
 use Rattle.answers.specs.declared.Refusal.the-variants.{NoNewName, TooDeep}
-use Rattle.answers.specs.Answers.{Test, _else_, ask, inOrder}
+use Rattle.answers.specs.Answers.{Test, _else_, inOrder}
 use Rattle.pages.specs.Pages.{slotsOf, nameIn, namesOf, keepsLayout, rises}
 use Rattle.pages.specs.Places.{has, placeOf, below as countBelow}
 use Rattle.pages.proofs.FindByHalving.{index-below, to-left, to-right, missed}

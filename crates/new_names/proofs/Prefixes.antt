@@ -47,13 +47,13 @@ module _ (s : Bytes) (p n q k : ℕ) where
   rest-longer h = longer (tuplesAt s p n) (tuplesAt s q k) (omega (arith, length-tuplesAt s p n, length-tuplesAt s q k))
 
   -- the first n of both compare as o
-  pub rest-compared : {o r : Order} → r ≡ compareRows (tuplesAt s p n) (tuplesAt s q n) → r ≡ o → n ≤ k →
+  pub rest-compared : {o : Order} → o ≡ compareRows (tuplesAt s p n) (tuplesAt s q n) → n ≤ k →
       rest (tuplesAt s p n) (tuplesAt s q k) ≡ cond (isSame o) (some (drop n (tuplesAt s q k))) none
-  rest-compared e f h =
+  rest-compared e h =
       let a = tuplesAt s p n in
       let b = tuplesAt s q k in
       let l = length-tuplesAt s p n in
-      let t = (λ i. compareRows a (take (l i) b)) ∙ ap (compareRows a) (take-tuplesAt s q k n h) ∙ sym e ∙ f in
+      let t = (λ i. compareRows a (take (l i) b)) ∙ ap (compareRows a) (take-tuplesAt s q k n h) ∙ sym e in
       compared a b (omega (arith, l, length-tuplesAt s q k)) ∙ (λ i. cond (isSame (t i)) (some (drop (l i) b)) none)
 
 -- ── neighbours of a gap ──

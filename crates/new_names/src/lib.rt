@@ -3,7 +3,7 @@
 ghost use mathlib.Core.Path.{_≡_};
 ghost use mathlib.Core.List.{[], _∷_, _++_};
 ghost use mathlib.Core.Option.{none, some};
-ghost use mathlib.Core.Bool.{true, cond};
+ghost use mathlib.Core.Bool.{cond};
 ghost use Prim.Native.Nat.{_+_, _*_, _≤_};
 ghost use lib.ListN.{drop};
 ghost use Rattle.names.specs.Names.{rowOf, valueOf};
@@ -14,7 +14,6 @@ use answers::Answer;
 use answers::Refusal;
 use names::Author;
 use names::Name;
-use names::Order;
 use names::Tuple;
 use slots::SLOT;
 use slots::Span;
@@ -114,11 +113,7 @@ fn is_prefix(page: &[u8], a: Span, b: Span) -> bool
     if b.count < a.count {
         return false;
     }
-    match slots::compare_rows(page, a.at, a.count, page, b.at, a.count) {
-        Order::Less => false,
-        Order::Same => true,
-        Order::More => false,
-    }
+    names::is_same(slots::compare_rows(page, a.at, a.count, page, b.at, a.count))
 }
 
 // "If y's position is 2 or more: a·(half that position rounded down, node, sequence, 0). If it is 1 and y's offset is at
