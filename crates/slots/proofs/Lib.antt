@@ -1,6 +1,6 @@
 pub mod TuplesInBytes
-pub mod TupleTests
 pub mod PackedTuples
+pub mod TupleTests
 pub mod ZeroTuples
 pub mod NameTests
 pub mod WrittenSlots

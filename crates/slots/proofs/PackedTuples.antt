@@ -6,6 +6,7 @@ use mathlib.Core.Logic.{inl, inr}
 use mathlib.Core.List.{[], _∷_}
 use Prim.Native.Nat.{ℕ, _+_, _*_, _-_, _%_, _<_, _≤_}
 use native.Mathlib.Decide.{decLt}
+use native.Mathlib.Nat.{suc-mul, mul-le-mul-right}
 use native.Mathlib.Omega.{arith}
 use lib.ListN.{length, drop, getD}
 use lib.Seq.{take-all}
@@ -48,17 +49,18 @@ high-first x y a c o l s g = elim (ℕ-cases a c) [
   ]
 ]
 
-joined16 : (a b c d : ℕ) → b < 65536 → d < 65536 → compareℕ (a * 65536 + b) (c * 65536 + d) ≡ then (compareℕ a c) (compareℕ b d)
-joined16 a b c d p q =
-    high-first (a * 65536 + b) (c * 65536 + d) a c (compareℕ b d) (λ h. omega arith)
-    (λ h. compare-by (a * 65536 + b) (c * 65536 + d) b d (λ k. omega arith) (λ k. omega arith) (λ k. omega arith))
-    (λ h. omega arith)
+-- two digits of a number in base w
+lower : (w a b c d : ℕ) → b < w → a < c → a * w + b < c * w + d
+lower w a b c d h k =
+    let e = suc-mul a w in
+    let f = mul-le-mul-right w k in
+    omega arith
 
-joined32 : (a b c d : ℕ) → b < 4294967296 → d < 4294967296 → compareℕ (a * 4294967296 + b) (c * 4294967296 + d) ≡ then (compareℕ a c) (compareℕ b d)
-joined32 a b c d p q =
-    high-first (a * 4294967296 + b) (c * 4294967296 + d) a c (compareℕ b d) (λ h. omega arith)
-    (λ h. compare-by (a * 4294967296 + b) (c * 4294967296 + d) b d (λ k. omega arith) (λ k. omega arith) (λ k. omega arith))
-    (λ h. omega arith)
+digits : (w a b c d : ℕ) → b < w → d < w → compareℕ (a * w + b) (c * w + d) ≡ then (compareℕ a c) (compareℕ b d)
+digits w a b c d p q =
+    high-first (a * w + b) (c * w + d) a c (compareℕ b d) (lower w a b c d p)
+    (λ h. let e = ap (λ (n : ℕ). n * w) h in compare-by (a * w + b) (c * w + d) b d (λ k. omega arith) (λ k. omega arith) (λ k. omega arith))
+    (lower w c d a b q)
 
 -- ── offsets raised ──
 
@@ -118,8 +120,8 @@ packed s t o o' h k =
     ((λ i. then P (then N (then Q (z i))))
     ∙ sym (then-then P N (then Q R))
     ∙ sym (then-then (then P N) Q R)
-    ∙ (λ i. then (then (sym (joined16 (s .position) (s .node) (t .position) (t .node) (h .node) (k .node)) i) Q) R)
-    ∙ (λ i. then (sym (joined32 (s .position * 65536 + s .node) (s .sequence) (t .position * 65536 + t .node) (t .sequence) (h .sequence) (k .sequence)) i) R))
+    ∙ (λ i. then (then (sym (digits 65536 (s .position) (s .node) (t .position) (t .node) (h .node) (k .node)) i) Q) R)
+    ∙ (λ i. then (sym (digits 4294967296 (s .position * 65536 + s .node) (s .sequence) (t .position * 65536 + t .node) (t .sequence) (h .sequence) (k .sequence)) i) R))
 
 pub held-at : (s : Bytes) (p : ℕ) → Octets s → Held (tupleAt s p) (at32 s (p + 8))
 unfolding tupleAt

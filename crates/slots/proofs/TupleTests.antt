@@ -1,21 +1,24 @@
 -- The sorts of tuples told by their bytes: ordinary ones, last ones, markers. Assumes nothing.
 use mathlib.Core.Path.{_≡_, refl, _∙_, sym, ap}
-use mathlib.Core.Bool.{Bool, true, false, _&&_, _||_, and-true, and-false, and-assoc}
-use Prim.Native.Nat.{ℕ, _+_, _*_, _-_, _%_, _<_, _≤_, _^_}
-use native.Mathlib.Decide.{decLt, decLe}
+use mathlib.Core.Logic.{inl, inr}
+use mathlib.Core.Bool.{Bool, false, _&&_, _||_, and-true, and-false, and-assoc}
+use Prim.Native.Nat.{ℕ, _+_, _-_, _%_, _<_, _≤_, _^_}
+use native.Mathlib.Decide.{decLt}
 use native.Mathlib.Omega.{arith}
-use borrow.Author.Tests.{lt-leb, le-leb, lt-ltb, le-ltb, eq-eqb, eqb-true}
+use borrow.Author.Tests.{lt-leb, le-leb, lt-ltb, le-ltb, eq-eqb, ne-eqb}
 use lib.Dec.{eqb, leb, ltb}
 use lib.IntN.{pos, negsuc}
 use Rattle.names.specs.declared.Tuple.{Tuple}
 use Rattle.names.specs.declared.Order.{Order}
-use Rattle.names.specs.Ordering.{compareTuples, isSame, _<ᵗ_}
-use Rattle.names.specs.Names.{withinℤ, ordinaryFrom, ordinary, marker}
-use Rattle.names.proofs.Laws.{Tri, below, level, above, triT, <ᵗ-irrefl, tuple-≡}
-use Rattle.numbers.proofs.Bools.{leb-by, and-0, and-1}
+use Rattle.names.specs.declared.Order.the-variants.{Less, Same, More}
+use Rattle.names.specs.Ordering.{compareℕ, then, compareTuples, isSame}
+use Rattle.names.specs.Names.{withinℤ, ordinaryFrom, ordinary, m, M, marker}
+use Rattle.names.proofs.Laws.{ℕ-less, ℕ-same, ℕ-more, ℕ-cases}
+use Rattle.numbers.proofs.Bools.{leb-by}
 use Rattle.numbers.specs.Bytes.{Bytes, Octets, at16, at32, at64, signed}
 use Rattle.slots.specs.Tuples.{tupleAt}
 use Rattle.numbers.proofs.ReadNumbers.{fits16, fits32, signed-pos, signed-neg}
+use Rattle.slots.proofs.PackedTuples.{front, raised, Held, packed, held-at}
 
 -- ── ordinary tuples ──
 
@@ -73,46 +76,40 @@ last-by s p =
 
 -- ── markers ──
 
--- a test that holds exactly of equal tuples
-same-by : (s t : Tuple) (b : Bool) → (b ≡ true → s ≡ t) → (s ≡ t → b ≡ true) → isSame (compareTuples s t) ≡ b
-same-by s t b f g = go (compareTuples s t) (triT s t)
-  where
-    not-same : (b : Bool) → (b ≡ true → s ≡ t) → ((s ≡ t) → ⊥) → false ≡ b
-    not-same true f h = absurd (h (f refl))
-    not-same false f h = refl
+same-then : (a b : Order) → isSame (then a b) ≡ isSame a && isSame b
+same-then Less b = refl
+same-then Same b = refl
+same-then More b = refl
 
-    go : (o : Order) → Tri _<ᵗ_ s t o → isSame o ≡ b
-    go _ (below h) = not-same b f (λ e. <ᵗ-irrefl (rw e at h))
-    go _ (level e) = sym (g e)
-    go _ (above h) = not-same b f (λ e. <ᵗ-irrefl (rw e at h))
-
-signed-is : (o w : ℕ) → w < 2147483648 → signed o ≡ pos w → o ≡ w
-signed-is o w h e = elim (decLt o 2147483648) [
-  | yes k ↦ let q : pos o ≡ pos w = sym (signed-pos o k) ∙ e in cc
-  | no k ↦ let q : negsuc (4294967295 - o) ≡ pos w = sym (signed-neg o (omega arith)) ∙ e in absurd (let z : _≡_ {A = ℕ} 0 1 = cc in omega arith)
+-- numbers x and y that are equal exactly where u and v are
+same-as : (x y u v : ℕ) → (u ≡ v → x ≡ y) → (x ≡ y → u ≡ v) → isSame (compareℕ x y) ≡ eqb u v
+same-as x y u v e f = elim (ℕ-cases x y) [
+  | inl h ↦ ap isSame (ℕ-less x y h) ∙ sym (ne-eqb u v (λ q. let w = e q in omega arith))
+  | inr r ↦ elim r [
+    | inl h ↦ ap isSame (ℕ-same x y h) ∙ sym (eq-eqb u v (f h))
+    | inr h ↦ ap isSame (ℕ-more x y h) ∙ sym (ne-eqb u v (λ q. let w = e q in omega arith))
+  ]
 ]
 
--- the two pieces that a tuple is read in
-module _ (s : Bytes) (p : ℕ) (k : Octets s) (p' n' q' o' : ℕ) (hn : n' < 65536) (hq : q' < 4294967296) (ho : o' < 2147483648) where
-  mark : isSame (compareTuples (tupleAt s p) (record { position = p'; node = n'; sequence = q'; offset = pos o' })) ≡ eqb (at64 s p) ((p' * 65536 + n') * 4294967296 + q') && eqb (at32 s (p + 8)) o'
-  unfolding tupleAt
-  mark =
-      let t : Tuple = record { position = p'; node = n'; sequence = q'; offset = pos o' } in
-      let x = at64 s p in
-      let o = at32 s (p + 8) in
-      let a = fits16 s (p + 2) k in
-      let b = fits32 s (p + 4) k in
-      same-by (tupleAt s p) t (eqb x ((p' * 65536 + n') * 4294967296 + q') && eqb o o')
-      (λ e.
-      let f = eqb-true x ((p' * 65536 + n') * 4294967296 + q') (and-0 _ (eqb o o') e) in
-      let g = eqb-true o o' (and-1 (eqb x ((p' * 65536 + n') * 4294967296 + q')) _ e) in
-      tuple-≡ (omega arith) (omega arith) (omega arith) (ap signed g ∙ signed-pos o' ho))
-      (λ e.
-      let d = ap (λ (w : Tuple). (w .position * 65536 + w .node) * 4294967296 + w .sequence) e in
-      let g = signed-is o o' ho (ap (λ (w : Tuple). w .offset) e) in
-      λ i. eq-eqb x ((p' * 65536 + n') * 4294967296 + q') d i && eq-eqb o o' g i)
+raised-same : (o w : ℕ) → o < 4294967296 → w < 4294967296 → raised o ≡ raised w → o ≡ w
+raised-same o w h k e = omega arith
+
+-- the two pieces that a tuple is read in, against those of t, whose offset has the bits o
+mark : (s : Bytes) (p : ℕ) → Octets s → (t : Tuple) (o : ℕ) → Held t o → isSame (compareTuples (tupleAt s p) t) ≡ eqb (at64 s p) (front t) && eqb (at32 s (p + 8)) o
+unfolding tupleAt
+mark s p k t o h =
+    let x = at64 s p in
+    let u = at32 s (p + 8) in
+    ap isSame (sym (packed (tupleAt s p) t u o (held-at s p k) h))
+    ∙ same-then (compareℕ x (front t)) (compareℕ (raised u) (raised o))
+    ∙ (λ i. same-as x (front t) x (front t) (λ e. e) (λ e. e) i && same-as (raised u) (raised o) u o (ap raised) (raised-same u o (fits32 s (p + 8) k) (h .bits)) i)
+
+held-m : Held m 0
+held-m = record { node = omega arith; sequence = omega arith; bits = omega arith; offset = refl }
+
+held-M : Held M 2147483647
+held-M = record { node = omega arith; sequence = omega arith; bits = omega arith; offset = refl }
 
 pub marker-by : (s : Bytes) (p : ℕ) → Octets s → marker (tupleAt s p) ≡ (eqb (at64 s p) 0 && eqb (at32 s (p + 8)) 0) || (eqb (at64 s p) 18446744073709551615 && eqb (at32 s (p + 8)) 2147483647)
 unfolding marker
-marker-by s p k =
-    λ i. mark s p k 0 0 0 0 (omega arith) (omega arith) (omega arith) i || mark s p k 65535 65535 4294967295 2147483647 (omega arith) (omega arith) (omega arith) i
+marker-by s p k = λ i. mark s p k m 0 held-m i || mark s p k M 2147483647 held-M i
