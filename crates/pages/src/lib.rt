@@ -160,13 +160,8 @@ pub fn span_of(page: &[u8], k: usize) -> Span
 pub fn name_of(page: &[u8], k: usize) -> Name
     ensures { λ r. ⌜ rowOf r ≡ getD (namesOf (now (page .entry))) k [] ⌝ }
 {
-    if k < page.len() / SLOT {
-        let at = SLOT * k;
-        let end = at + SLOT;
-        slots::read_name(&page[at..end])
-    } else {
-        name_values::empty()
-    }
+    let x = span_of(page, k);
+    slots::read_row(page, x.at, x.count)
 }
 
 // Where a name stands in a page, or would stand.
