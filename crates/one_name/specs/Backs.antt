@@ -14,7 +14,7 @@ use Rattle.name_renames.specs.declared.Case.the-variants.{KeepBelow, PutBelow, 
 use Rattle.one_name.specs.declared.Back.{Back}
 use Rattle.one_name.specs.declared.Back.the-variants.{Restored, Own, Behind, Ahead}
 
--- "(p, A, s, −1)·x", "N(k)·x", "N(n−1)·x"
+-- the cases that put a tuple before the name: "(p, A, s, −1)·x", "N(k)·x", "N(n−1)·x"
 abbrev pub gains : Case → Bool
 gains KeepBelow = false
 gains PutBelow = true

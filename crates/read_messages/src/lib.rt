@@ -70,7 +70,7 @@ fn span_in(message: &[u8], cursor: Cursor) -> Span
     Span { at, count }
 }
 
-// The tuples are 1 to 8 and are a name.
+// The tuples are 1 to LIMIT and are a name.
 fn name_fits(message: &[u8], tuples: Span) -> bool
     requires { ⌜ Within (now message) tuples ⌝ }
     ensures { λ r. ⌜ r ≡ nameFits (rowAt (now (message .entry)) tuples) ⌝ }
