@@ -1,10 +1,11 @@
 -- What an outcome leaves in an output: a refusal every byte as it was; an accepted call its bytes from the start, nothing after
 -- them changed. What an accepted outcome says of itself: `no-answer`, `write-accepted`; and an outcome as a call meets it: `refused`,
--- `accepted`, `writes-short`, `writes`. Assumes nothing.
+-- `accepted`, `writes-short`, `writes`, `write-refuses`. Assumes nothing.
 use mathlib.Core.Path.{_≡_, refl, _∙_, sym, ap}
 use mathlib.Core.List.{List, _++_, flatten}
 use mathlib.Core.Bool.{Bool, true, false}
 use Prim.Native.Nat.{ℕ, _<_, _≤_}
+use native.Mathlib.Decide.{decLe}
 use native.Mathlib.Nat.{zero-add}
 use native.Mathlib.Omega.{arith}
 use borrow.Author.Tests.{le-leb, lt-leb}
@@ -63,3 +64,13 @@ pub writes : (l : List Bytes) (room n : ℕ) (w : Bytes) → length l ≡ n → 
 writes l room n w p q h =
     let k : length (flatten l) ≤ room = rw q h in
     rw (le-leb (length (flatten l)) room k) (λ i. record { answer = Accepted (p i); bytes = q i })
+
+-- writing alone refuses with 8 and nothing else
+pub write-refuses : (l : List Bytes) (room : ℕ) {r : Refusal} → write l room .answer ≡ Refused r → (r ≡ Short) × (room < length (flatten l))
+write-refuses l room {r} e = elim (decLe (length (flatten l)) room) [
+  | yes h ↦ no-answer r (length l) (sym e ∙ ap (λ (y : Outcome). y .answer) (writes l room (length l) (flatten l) refl refl h))
+  | no h ↦
+      let k : room < length (flatten l) = omega arith in
+      let same : Refused r ≡ Refused Short = sym e ∙ ap (λ (y : Outcome). y .answer) (writes-short l room k) in
+      (let is : r ≡ Short = cc in is, k)
+]

@@ -18,7 +18,7 @@ use Rattle.answers.specs.Answers.{Outcome, Test, _else_, refuse, accept, write,
 use Rattle.pages.specs.Pages.{pieces}
 use Rattle.numbers.proofs.Lists.{flat, flat-none}
 use Rattle.pages.proofs.RoundTrip.{written-length}
-use Rattle.answers.proofs.Outcomes.{write-accepted, writes, writes-short}
+use Rattle.answers.proofs.Outcomes.{write-accepted, write-refuses, writes, writes-short}
 use Rattle.answers.specs.Laws.{here, RefusedBy, test, after}
 use Rattle.answers.proofs.Refusals.{passed, failed, accepted-passes, refused-first}
 use Rattle.messages.specs.declared.Numbers.{Numbers}
@@ -29,24 +29,14 @@ use Rattle.messages.proofs.BareSlots.{bare-slots}
 
 -- ── one test, and then the output ──
 
--- a refusal is not an acceptance, and two refusals are two
+-- a refusal is not an acceptance
 no-count : {A : Type 0} {r : Refusal} {n : ℕ} {a : Answer} → a ≡ Refused r → a ≡ Accepted n → A
 no-count e f = absurd (let z : _≡_ {A = ℕ} 0 1 = cc in omega arith)
-
-not-both : {A : Type 0} {a : Answer} → a ≡ Refused Malformed → a ≡ Refused Short → A
-not-both e f = absurd (let z : _≡_ {A = ℕ} 0 1 = cc in omega arith)
 
 abbrev answered : {x y : Outcome} → x ≡ y → x .answer ≡ y .answer
 answered e = ap (λ (o : Outcome). o .answer) e
 
 module _ (l : List Bytes) (room : ℕ) where
-  -- what writing alone answers
-  write-short : {r : Refusal} → write l room .answer ≡ Refused r → (write l room .answer ≡ Refused Short) × (room < length (flatten l))
-  write-short e = elim (decLe (length (flatten l)) room) [
-    | yes h ↦ no-count e (answered (writes l room (length l) (flatten l) refl refl h))
-    | no h ↦ let k : room < length (flatten l) = omega arith in (answered (writes-short l room k), k)
-  ]
-
   write-fits : {n : ℕ} → write l room .answer ≡ Accepted n → length (flatten l) ≤ room
   write-fits e = elim (decLe (length (flatten l)) room) [
     | yes h ↦ h
@@ -71,14 +61,14 @@ module _ (l : List Bytes) (room : ℕ) where
       where
         by : RefusedBy Malformed tests (write l room) → b ≡ false
         by (test (here p q)) = p
-        by (after p f) = not-both f (write-short f .0)
+        by (after p f) = absurd (let short = write-refuses l room f .0 in let z : _≡_ {A = ℕ} 0 1 = cc in omega arith)
 
     is-short : outcome (b else Malformed ∷ []) l room .answer ≡ Refused Short → (b ≡ true) × (room < length (flatten l))
     is-short e = by (refused-first (write l room) tests e)
       where
         by : RefusedBy Short tests (write l room) → (b ≡ true) × (room < length (flatten l))
         by (test (here p q)) = absurd (let z : _≡_ {A = ℕ} 0 1 = cc in omega arith)
-        by (after p f) = (p .0, write-short f .1)
+        by (after p f) = (p .0, write-refuses l room f .1)
 
     is-done : {n : ℕ} → outcome (b else Malformed ∷ []) l room .answer ≡ Accepted n → (b ≡ true) × (length (flatten l) ≤ room) × (n ≡ length l)
     is-done {n} e =

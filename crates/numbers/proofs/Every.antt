@@ -2,11 +2,13 @@
 use mathlib.Core.Path.{_≡_, refl, _∙_, sym, ap}
 use mathlib.Core.List.{List, [], _∷_, _++_, map}
 use mathlib.Core.Bool.{Bool, true, false, _&&_, and-false, and-assoc}
-use Prim.Native.Nat.{ℕ, _+_, _<_, _≤_}
+use Prim.Native.Nat.{ℕ, zero, suc, _+_, _<_, _≤_}
+use native.Mathlib.Nat.{not-suc-le-zero, le-of-suc-le-suc}
 use native.Mathlib.Numerals.{add-one}
 use lib.ListN.{length, getD, take, drop, take-append-drop, drop-of-length-le}
 use lib.Seq.{drop-cons, drop-drop, take-add}
 use Rattle.numbers.specs.Lists.{every}
+use Rattle.numbers.proofs.Bools.{and-0, and-1}
 
 module _ {A : Type 0} (f : A → Bool) where
   pub every-append : (xs ys : List A) → every f (xs ++ ys) ≡ every f xs && every f ys
@@ -34,6 +36,12 @@ module _ {A : Type 0} (f : A → Bool) where
   -- the answer b for the element at i, and what is left after it
   pub every-at : {b : Bool} (l : List A) (i : ℕ) (d : A) → i < length l → b ≡ f (getD l i d) → b && every f (drop (i + 1) l) ≡ every f (drop i l)
   every-at l i d h e = rw (e, add-one, drop-cons l i d h)
+
+  -- where all pass each does
+  pub every-each : (l : List A) (i : ℕ) (d : A) → i < length l → every f l ≡ true → f (getD l i d) ≡ true
+  every-each [] i d h e = absurd (not-suc-le-zero h)
+  every-each (x ∷ l) zero d h e = and-0 (f x) (every f l) e
+  every-each (x ∷ l) (suc i) d h e = every-each l i d (le-of-suc-le-suc h) (and-1 (f x) (every f l) e)
 
   pub every-end : (l : List A) (i : ℕ) → length l ≤ i → true ≡ every f (drop i l)
   every-end l i h = rw (drop-of-length-le l h)

@@ -7,6 +7,7 @@ pub mod Put
 pub mod NumberBytes
 pub mod Octets
 pub mod Parts
+pub mod Pieces
 pub mod TwosComplement
 pub mod SignedTests
 pub mod Settled

@@ -1,24 +1,21 @@
 -- A page written slot by slot, each with what a function f makes of its name: what stands once the slots from i on are written
 -- (`standing`) does not change in a turn of the loop. Assumes nothing.
 use mathlib.Core.Path.{_≡_, refl, _∙_, sym, ap}
-use mathlib.Core.List.{List, [], _++_, map, flatten}
+use mathlib.Core.List.{List, [], map, flatten}
 use mathlib.Core.Bool.{Bool, true, cond}
-use Prim.Native.Nat.{ℕ, suc, _+_, _*_, _/_, _<_, _≤_}
-use native.Mathlib.Numerals.{add-one}
+use Prim.Native.Nat.{ℕ, _+_, _*_, _/_, _<_, _≤_}
 use native.Mathlib.Omega.{arith}
 use borrow.Author.Tests.{leb-true}
-use lib.ListN.{length, getD, drop, length-map, drop-of-length-le, List·getD-map}
-use lib.Seq.{drop-cons}
+use lib.ListN.{length, getD, length-map, List·getD-map}
 use Rattle.names.specs.declared.Joined.{Joined}
 use Rattle.names.specs.Ordering.{Row}
 use Rattle.names.specs.Names.{limit, rowOf, fits, fitted, Gives}
 use Rattle.numbers.specs.Bytes.{Bytes, put}
 use Rattle.slots.specs.Slots.{Slot, slotSize, nameOf, lineOf, slotOf, slotBytes}
-use Rattle.numbers.proofs.Put.{put-put, put-length, put-none}
+use Rattle.numbers.proofs.Pieces.{standing as slots-standing, standing-first as slots-first, standing-last as slots-last, standing-on as slots-on, same-room as slots-room}
 use Rattle.slots.proofs.RoundTrip.{slot-length}
 use Rattle.pages.specs.Pages.{partsOf, slotsOf, namesOf, pieces}
 use Rattle.pages.proofs.SlotBySlot.{lent, lent-part, length-parts}
-use Rattle.numbers.proofs.Lists.{flat, flat-none}
 use Rattle.page_renames.specs.Renames.{carry, carried, allFit}
 use Rattle.page_renames.proofs.Carried.{all-every, each}
 use Rattle.page_renames.proofs.PageWalk.{name-lent, within-names}
@@ -29,7 +26,7 @@ module _ (f : Row → Row) (page : Bytes) where
 
   -- what stands once the slots from i on are written to o
   abbrev pub standing : Bytes → ℕ → Bytes
-  standing o i = put o (slotSize * i) (flatten (drop i all))
+  standing o i = slots-standing slotSize all o i
 
   length-all : length all ≡ length page / slotSize
   length-all =
@@ -37,12 +34,10 @@ module _ (f : Row → Row) (page : Bytes) where
       ∙ length-parts (length page / slotSize) page
 
   pub standing-first : (o : Bytes) → standing o 0 ≡ put o 0 (flatten all)
-  standing-first o = refl
+  standing-first o = slots-first slotSize all o
 
   pub standing-last : (o : Bytes) (i : ℕ) → length page / slotSize ≤ i → o ≡ standing o i
-  standing-last o i h =
-      let e = drop-of-length-le all {i = i} (omega (arith, length-all)) in
-      put-none o (slotSize * i) ∙ ap (put o (slotSize * i)) (sym (ap flatten e ∙ flat-none))
+  standing-last o i h = slots-last slotSize all o i (omega (arith, length-all))
 
   module _ (i : ℕ) (h : i < length page / slotSize) (t : allFit f page ≡ true) where
     -- the slot that is lent, with what f makes of its name
@@ -75,22 +70,12 @@ module _ (f : Row → Row) (page : Bytes) where
         let slot = lent page (slotSize * i) in
         slot-length (record { line = lineOf slot; name = f (nameOf slot) }) (leb-true (length (f (nameOf slot))) limit fit)
 
-    left : flatten (drop i all) ≡ piece ++ flatten (drop (i + 1) all)
-    left =
-        let l : i < length all = omega (arith, length-all) in
-        ap flatten (drop-cons all i (slotBytes (carry f (slotOf []))) l)
-        ∙ flat (getD all i (slotBytes (carry f (slotOf [])))) (drop (suc i) all)
-        ∙ (λ k. piece-is k ++ flatten (drop (sym (add-one i) k) all))
-
     module _ (o o' : Bytes) (r : length page ≤ length o) (e : o' ≡ put o (slotSize * i) piece) where
+      within : i < length all
+      within = omega (arith, length-all)
+
       pub standing-on : standing o' (i + 1) ≡ standing o i
-      standing-on =
-          let q : slotSize * (i + 1) ≡ slotSize * i + length piece = omega (arith, long) in
-          let p : slotSize * i ≤ length o = omega arith in
-          ap (λ (s : Bytes). put s (slotSize * (i + 1)) (flatten (drop (i + 1) all))) e
-          ∙ ap (λ (n : ℕ). put (put o (slotSize * i) piece) n (flatten (drop (i + 1) all))) q
-          ∙ put-put o (slotSize * i) p piece (flatten (drop (i + 1) all))
-          ∙ ap (put o (slotSize * i)) (sym left)
+      standing-on = slots-on slotSize all i within piece (slotBytes (carry f (slotOf []))) piece-is long o o' (omega arith) e
 
       pub same-room : length o' ≡ length o
-      same-room = ap length e ∙ put-length o (slotSize * i) (omega arith) piece (omega (arith, long))
+      same-room = slots-room slotSize all i within piece (slotBytes (carry f (slotOf []))) piece-is long o o' (omega arith) e

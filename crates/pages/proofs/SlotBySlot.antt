@@ -2,30 +2,67 @@
 use mathlib.Core.Path.{_≡_, refl, _∙_, sym, ap}
 use mathlib.Core.List.{List, [], _∷_, map}
 use mathlib.Core.Bool.{Bool, true, _&&_, and-true}
-use Prim.Native.Nat.{ℕ, zero, suc, _+_, _*_, _-_, _/_, _<_, _≤_, min}
-use native.Mathlib.Numerals.{add-one}
+use Prim.Native.Nat.{ℕ, _+_, _*_, _-_, _/_, _<_, _≤_, min}
+use native.Mathlib.Decide.{decLt}
 use native.Mathlib.Omega.{arith}
-use lib.ListN.{length, getD, take, drop, drop-of-length-le, length-take, length-drop, length-map, List·getD-map}
-use lib.Seq.{drop-cons, take-all}
+use lib.ListN.{length, getD, take, drop, length-take, length-drop, length-map, List·getD-map}
+use lib.Seq.{drop-drop, take-all}
 use Rattle.names.specs.declared.Order.{Order}
 use Rattle.names.specs.Ordering.{Row, compareRows, isLess, rising}
 use Rattle.numbers.specs.Bytes.{Bytes}
 use Rattle.numbers.specs.Lists.{every}
 use Rattle.names.specs.Names.{limit}
 use Rattle.slots.specs.Tuples.{tuplesAt}
-use Rattle.slots.specs.Slots.{headSize, slotSize, depthOf, slotOf, nameOf, keepsSlot}
+use Rattle.slots.specs.Slots.{sizeOver, nameOver, slotOver, headSize, slotSize, depthOf, slotOf, nameOf, keepsSlot}
 use Rattle.slots.proofs.TuplesInBytes.{tuples-on, tuples-within}
 use Rattle.slots.proofs.NameTests.{name-is}
 use Rattle.numbers.proofs.Every.{every-at, every-end}
-use Rattle.numbers.proofs.Parts.{length-parts as length-equal, getD-parts}
-use Rattle.pages.specs.Pages.{parts, partsOf, slotsOf, nameIn, namesOf}
+use Rattle.numbers.proofs.Parts.{length-parts as length-equal, getD-parts, parts-first, parts-none}
+use Rattle.pages.specs.Pages.{partsOver, namesOver, parts, partsOf, slotsOf, nameIn}
+
+-- ── slots with room for so many tuples: the first of those from `at` on, and the rest ──
+
+-- a slot as the code lends it: the part from a to a + sizeOver room
+abbrev pub lentOver : ℕ → Bytes → ℕ → Bytes
+lentOver room s a = take (a + sizeOver room - a) (drop a s)
+
+module _ (room : ℕ) (s : Bytes) (at : ℕ) (h : sizeOver room ≤ length s - at) where
+  pub length-over : length (lentOver room s at) ≡ sizeOver room
+  length-over = simp (length-take, length-drop) (omega arith)
+
+  first-part : partsOver room (drop at s) ≡ lentOver room s at ∷ partsOver room (drop (at + sizeOver room) s)
+  first-part =
+      let e : sizeOver room ≡ at + sizeOver room - at = omega arith in
+      let l : sizeOver room ≤ length (drop at s) = rw length-drop h in
+      parts-first (sizeOver room) (drop at s) (omega arith) l
+      ∙ (λ i. take (e i) (drop at s) ∷ partsOver room (drop-drop (sizeOver room) at s i))
+
+  -- a turn: the answer b for that slot, and what is left after it
+  pub part-turn : (f : Bytes → Bool) {b : Bool} → b ≡ f (lentOver room s at)
+      → b && every f (partsOver room (drop (at + sizeOver room) s)) ≡ every f (partsOver room (drop at s))
+  part-turn f e = (λ i. e i && every f (partsOver room (drop (at + sizeOver room) s))) ∙ sym (ap (every f) first-part)
+
+  first-name : namesOver room (drop at s) ≡ nameOver room (lentOver room s at) ∷ namesOver room (drop (at + sizeOver room) s)
+  first-name = ap (λ (l : List Bytes). map nameIn (map (slotOver room) l)) first-part
+
+-- no whole slot is left
+module _ (room : ℕ) (s : Bytes) (at : ℕ) (h : length s - at < sizeOver room) where
+  no-part : partsOver room (drop at s) ≡ []
+  no-part = let l : length (drop at s) < sizeOver room = rw length-drop h in parts-none (sizeOver room) (drop at s) l
+
+  pub part-last : (f : Bytes → Bool) → true ≡ every f (partsOver room (drop at s))
+  part-last f = sym (ap (every f) no-part)
+
+  no-name : namesOver room (drop at s) ≡ []
+  no-name = ap (λ (l : List Bytes). map nameIn (map (slotOver room) l)) no-part
+
+-- ── a page's slots by their index ──
 
 pub length-parts : (n : ℕ) (s : Bytes) → length (parts n s) ≡ n
 length-parts = length-equal slotSize
 
--- a slot as the code lends it: the part from a to a + slotSize
 abbrev pub lent : Bytes → ℕ → Bytes
-lent s a = take (a + slotSize - a) (drop a s)
+lent s a = lentOver limit s a
 
 module _ (s : Bytes) (n k a : ℕ) (q : a ≡ slotSize * k) (h : k < n) where
   pub lent-part : lent s a ≡ getD (parts n s) k []
@@ -84,30 +121,27 @@ rising-none : rising [] ≡ true
 unfolding rising
 rising-none = refl
 
--- a turn: the names at k and k + 1 compare as o
-pub rising-at : (l : List Row) (k : ℕ) {o : Order} → k + 1 < length l → o ≡ compareRows (getD l k []) (getD l (k + 1) []) → isLess o && rising (drop (k + 1) l) ≡ rising (drop k l)
-rising-at l k h e =
-    let a : k < length l = omega arith in
-    let b : suc k < length l = omega arith in
-    rw (e, add-one, drop-cons l k [] a, drop-cons l (suc k) [] b) (sym (rising-cons (getD l k []) (getD l (suc k) []) (drop (suc (suc k)) l)))
+-- a turn: the names of the first two slots from `at` on compare as o
+pub neighbours : (room : ℕ) (s : Bytes) (at : ℕ) {o : Order} → sizeOver room + sizeOver room ≤ length s - at
+    → o ≡ compareRows (nameOver room (lentOver room s at)) (nameOver room (lentOver room s (at + sizeOver room)))
+    → isLess o && rising (namesOver room (drop (at + sizeOver room) s)) ≡ rising (namesOver room (drop at s))
+neighbours room s at h e =
+    let a = nameOver room (lentOver room s at) in
+    let next = at + sizeOver room in
+    let b = nameOver room (lentOver room s next) in
+    let l = namesOver room (drop (next + sizeOver room) s) in
+    let first = first-name room s at (omega arith) in
+    let second = first-name room s next (omega arith) in
+    (λ i. isLess (e i) && rising (second i)) ∙ sym (rising-cons a b l) ∙ sym (ap rising first ∙ ap (λ (r : List Row). rising (a ∷ r)) second)
 
-pub rising-end : (l : List Row) (k : ℕ) → length l ≤ k + 1 → true ≡ rising (drop k l)
-rising-end [] k h = sym (ap rising (drop-of-length-le {A = Row} [] {i = k} (omega arith)) ∙ rising-none)
-rising-end (a ∷ l) zero h = sym (ap (λ (r : List Row). rising (a ∷ r)) (drop-of-length-le l {i = 0} (omega arith)) ∙ rising-one a)
-rising-end (a ∷ l) (suc k) h = rising-end l k (omega arith)
-
--- the same of the slots that the code lends
-module _ (s : Bytes) (k : ℕ) where
-  pub neighbours : {o : Order} → k + 1 < length s / slotSize → o ≡ compareRows (nameOf (lent s (slotSize * k))) (nameOf (lent s (slotSize * k + slotSize))) → isLess o && rising (drop (k + 1) (namesOf s)) ≡ rising (drop k (namesOf s))
-  neighbours h e =
-      let n = length s / slotSize in
-      let h' : k < n = omega arith in
-      let l : k + 1 < length (namesOf s) = rw (length-names s n) h in
-      let q : slotSize * k + slotSize ≡ slotSize * (k + 1) = omega arith in
-      rising-at (namesOf s) k l (e ∙ (λ i. compareRows (lent-name s n k (slotSize * k) refl h' i) (lent-name s n (k + 1) (slotSize * k + slotSize) q h i)))
-
-  pub no-neighbours : length s / slotSize ≤ k + 1 → true ≡ rising (drop k (namesOf s))
-  no-neighbours h = rising-end (namesOf s) k (rw (length-names s (length s / slotSize)) h)
+pub no-neighbours : (room : ℕ) (s : Bytes) (at : ℕ) → length s - at < sizeOver room + sizeOver room → true ≡ rising (namesOver room (drop at s))
+no-neighbours room s at h = elim (decLt (length s - at) (sizeOver room)) [
+  | yes k ↦ sym (ap rising (no-name room s at k) ∙ rising-none)
+  | no k ↦
+      let a = nameOver room (lentOver room s at) in
+      let rest = no-name room s (at + sizeOver room) (omega arith) in
+      sym (ap rising (first-name room s at (omega arith)) ∙ ap (λ (r : List Row). rising (a ∷ r)) rest ∙ rising-one a)
+]
 
 pub length-slots : (s : Bytes) → length (slotsOf s) ≡ length s / slotSize
 length-slots s = length-map (partsOf s) slotOf ∙ length-parts (length s / slotSize) s

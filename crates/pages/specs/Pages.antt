@@ -8,7 +8,7 @@ use Rattle.names.specs.Ordering.{Row, rising}
 use Rattle.numbers.specs.Lists.{every, firstParts, equalParts}
 use Rattle.numbers.specs.Bytes.{Bytes, isZero}
 use Rattle.names.specs.Names.{limit}
-use Rattle.slots.specs.Slots.{sizeOver, keepsOver, Slot, slotSize, slotOf, slotBytes}
+use Rattle.slots.specs.Slots.{sizeOver, slotOver, keepsOver, bytesOver, Slot, slotSize}
 use Rattle.answers.specs.Answers.{_else_, check}
 use Rattle.answers.specs.declared.Answer.{Answer}
 use Rattle.answers.specs.declared.Refusal.the-variants.{BadLayout, NotRising, BadLog}
@@ -17,17 +17,34 @@ use Rattle.answers.specs.declared.Refusal.the-variants.{BadLayout, NotRising, B
 abbrev pub maxSlots : ℕ
 maxSlots = 256
 
+abbrev pub nameIn : Slot → Row
+nameIn x = x .name
+
 -- ── slots with room for so many tuples, one after the other ──
 
 module _ (room : ℕ) where
-  -- each slot's bytes
+  -- each slot's bytes, what the slots say, and their names
   abbrev pub partsOver : Bytes → List Bytes
   partsOver s = equalParts (sizeOver room) s
 
-  -- "A page is 0..256 slots .. 26,624 bytes at most"; "A length that is no whole number of slots or entries breaks the layout."
+  abbrev pub slotsOver : Bytes → List Slot
+  slotsOver s = map (slotOver room) (partsOver s)
+
+  abbrev pub namesOver : Bytes → List Row
+  namesOver s = map nameIn (slotsOver s)
+
+  -- the slots' bytes, one after the other: the pieces of a written page
+  abbrev pub piecesOver : List Slot → List Bytes
+  piecesOver l = map (bytesOver room) l
+
+  -- "A page is 0..256 slots"; "A length that is no whole number of slots or entries breaks the layout."
   unfoldable pub layoutOver : Bytes → Bool
   layoutOver s =
       eqb (length s % sizeOver room) 0 && leb (length s / sizeOver room) maxSlots && every (keepsOver room) (partsOver s)
+
+  -- "with strictly rising names"
+  abbrev pub risesOver : Bytes → Bool
+  risesOver s = rising (namesOver s)
 
 -- ── a page as bytes, and as the list of its slots ──
 
@@ -39,26 +56,21 @@ abbrev pub partsOf : Bytes → List Bytes
 partsOf s = partsOver limit s
 
 abbrev pub slotsOf : Bytes → List Slot
-slotsOf s = map slotOf (partsOf s)
-
-abbrev pub nameIn : Slot → Row
-nameIn x = x .name
+slotsOf s = slotsOver limit s
 
 abbrev pub namesOf : Bytes → List Row
-namesOf s = map nameIn (slotsOf s)
+namesOf s = namesOver limit s
 
--- the slots' bytes, one after the other: the pieces of a written page
 abbrev pub pieces : List Slot → List Bytes
-pieces l = map slotBytes l
+pieces l = piecesOver limit l
 
 -- ── the layout ──
 
 abbrev pub keepsLayout : Bytes → Bool
 keepsLayout = layoutOver limit
 
--- "with strictly rising names"
 abbrev pub rises : Bytes → Bool
-rises s = rising (namesOf s)
+rises s = risesOver limit s
 
 abbrev pub lineIsZero : Slot → Bool
 lineIsZero x = isZero (x .line)

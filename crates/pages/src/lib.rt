@@ -2,56 +2,67 @@
 // Document 01, "Pages, logs, epochs" and "What comes back"; the definitions are in specs/.
 ghost use mathlib.Core.Path.{_≡_};
 ghost use mathlib.Core.Bool.{true};
-ghost use Prim.Native.Nat.{_+_};
+ghost use Prim.Native.Nat.{_+_, _≤_};
 ghost use mathlib.Core.List.{[]};
 ghost use lib.ListN.{length, getD};
-ghost use Rattle.names.specs.Names.{rowOf};
+ghost use Rattle.names.specs.Names.{limit, rowOf};
 ghost use Rattle.slots.specs.Tuples.{rowAt, Lies};
 ghost use Rattle.numbers.specs.Lists.{every};
-ghost use Rattle.slots.specs.Slots.{slotSize, nameOf, keepsSlot};
-ghost use Rattle.pages.specs.Pages.{partsOf, slotsOf, namesOf, rises, lineIsZero, keepsLayout, isLog, checkPage, checkLog};
+ghost use Rattle.slots.specs.Slots.{keepsOver, slotSize, nameOf, keepsSlot};
+ghost use Rattle.pages.specs.Pages.{partsOver, layoutOver, risesOver, slotsOf, namesOf, rises, lineIsZero, keepsLayout, isLog, checkPage, checkLog};
 ghost use Rattle.pages.specs.Places.{placeOf};
 use answers::Answer;
 use answers::Refusal;
+use names::LIMIT;
 use names::Name;
 use names::Order;
 use slots::HEAD;
 use slots::SLOT;
 use slots::Span;
+use slots::TUPLE;
 
 // "A page is 0..256 slots": the most slots, and the bytes of the largest page.
 pub const SLOTS: usize = 256;
 
 pub const PAGE: usize = SLOTS * SLOT;
 
-// Every slot keeps the layout. A rest that is no whole slot is not looked at.
-fn slots_ok(page: &[u8]) -> bool
-    ensures { λ r. ⌜ r ≡ every keepsSlot (partsOf (now (page .entry))) ⌝ }
+// Every slot keeps the layout of one with room for so many tuples. A rest that is no whole slot is not looked at.
+fn slots_ok(page: &[u8], room: usize) -> bool
+    requires { ⌜ room ≤ limit ⌝ }
+    ensures { λ r. ⌜ r ≡ every (keepsOver room) (partsOver room (now (page .entry))) ⌝ }
 {
-    let n = page.len() / SLOT;
-    let mut k: usize = 0;
-    while k < n {
-        let at = SLOT * k;
-        let end = at + SLOT;
-        if !slots::slot_ok(&page[at..end]) {
+    let size = HEAD + TUPLE * room;
+    let mut at: usize = 0;
+    while size <= page.len() - at {
+        let end = at + size;
+        if !slots::slot_ok(&page[at..end], room) {
             return false;
         }
-        k += 1;
+        at = end;
     }
     true
+}
+
+// The layout of a page whose slots have room for so many tuples, its order apart.
+pub fn layout_ok(page: &[u8], room: usize) -> bool
+    requires { ⌜ room ≤ limit ⌝ }
+    ensures { λ r. ⌜ r ≡ layoutOver room (now (page .entry)) ⌝ }
+{
+    let size = HEAD + TUPLE * room;
+    if page.len() % size != 0 {
+        return false;
+    }
+    if SLOTS < page.len() / size {
+        return false;
+    }
+    slots_ok(page, room)
 }
 
 // A page's layout, its order apart.
 pub fn page_ok(page: &[u8]) -> bool
     ensures { λ r. ⌜ r ≡ keepsLayout (now (page .entry)) ⌝ }
 {
-    if page.len() % SLOT != 0 {
-        return false;
-    }
-    if SLOTS < page.len() / SLOT {
-        return false;
-    }
-    slots_ok(page)
+    layout_ok(page, LIMIT)
 }
 
 // The layout of a slot that is given by itself: a page of one slot.
@@ -61,29 +72,36 @@ pub fn slot_ok(slot: &[u8]) -> bool
     if slot.len() != SLOT {
         return false;
     }
-    slots_ok(slot)
+    slots_ok(slot, LIMIT)
 }
 
-// The names of the slots rise strictly.
-pub fn page_rises(page: &[u8]) -> bool
-    ensures { λ r. ⌜ r ≡ rises (now (page .entry)) ⌝ }
+// The names of slots with room for so many tuples rise strictly.
+pub fn names_rise(page: &[u8], room: usize) -> bool
+    requires { ⌜ room ≤ limit ⌝ }
+    ensures { λ r. ⌜ r ≡ risesOver room (now (page .entry)) ⌝ }
 {
-    let n = page.len() / SLOT;
-    let mut k: usize = 0;
+    let size = HEAD + TUPLE * room;
+    let mut at: usize = 0;
     loop {
-        if n <= k + 1 {
+        if page.len() - at < 2 * size {
             break true;
         }
-        let at = SLOT * k;
-        let next = at + SLOT;
-        let end = next + SLOT;
-        match slots::compare_slots(&page[at..next], &page[next..end]) {
+        let next = at + size;
+        let end = next + size;
+        match slots::compare_slots(&page[at..next], &page[next..end], room) {
             Order::Less => {}
             Order::Same => break false,
             Order::More => break false,
         }
-        k += 1;
+        at = next;
     }
+}
+
+// The names of a page's slots rise strictly.
+pub fn page_rises(page: &[u8]) -> bool
+    ensures { λ r. ⌜ r ≡ rises (now (page .entry)) ⌝ }
+{
+    names_rise(page, LIMIT)
 }
 
 // The line number of every slot is 0.
@@ -183,7 +201,7 @@ pub fn find(page: &[u8], slot: &[u8]) -> Place
         let middle = low + (high - low) / 2;
         let at = SLOT * middle;
         let end = at + SLOT;
-        match slots::compare_slots(&page[at..end], slot) {
+        match slots::compare_slots(&page[at..end], slot, LIMIT) {
             Order::Less => {
                 low = middle + 1;
             }

@@ -6,7 +6,6 @@ ghost use mathlib.Core.Bool.{true, cond, _&&_};
 ghost use Prim.Native.Nat.{_+_, _*_, _≤_};
 ghost use lib.Dec.{eqb};
 ghost use lib.ListN.{length, drop};
-ghost use Rattle.names.specs.Names.{rowOf};
 ghost use Rattle.names.specs.Ordering.{compareRows, isLess};
 ghost use Rattle.numbers.specs.Bytes.{at32, put};
 ghost use Rattle.numbers.specs.Lists.{every};
@@ -38,7 +37,6 @@ use messages::PAIR;
 use messages::SEQUENCE;
 use names::Author;
 use names::LIMIT;
-use names::Name;
 use slots::SLOT;
 use slots::Span;
 use slots::TUPLE;
@@ -82,15 +80,6 @@ fn name_fits(message: &[u8], tuples: Span) -> bool
         return false;
     }
     slots::name_at(message, tuples.at, tuples.count)
-}
-
-// The name whose field stands at the cursor.
-fn name_in(message: &[u8], cursor: Cursor) -> Name
-    requires { ⌜ (nameStands (drop (cursor .at) (now message)) ≡ true) × (nameFits (tuplesIn (drop (cursor .at) (now message))) ≡ true) ⌝ }
-    ensures { λ r. ⌜ rowOf r ≡ tuplesIn (drop (cursor .at) (now (message .entry))) ⌝ }
-{
-    let tuples = span_in(message, cursor);
-    slots::read_row(message, tuples.at, tuples.count)
 }
 
 // The fields of kind, epoch and author stand one after the other from the cursor on.
@@ -383,7 +372,7 @@ fn write_slots(message: &[u8], cursor: Cursor, n: usize, out: &mut [u8])
     let mut at = cursor.at;
     while i < n {
         let here = Cursor { at };
-        slots::write_slot(out, SLOT * i, 0, name_in(message, here));
+        slots::copy_slot(out, SLOT * i, 0, message, span_in(message, here));
         let next = fields::after_field(message, here);
         at = next.at;
         i += 1;

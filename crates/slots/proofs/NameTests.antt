@@ -15,7 +15,7 @@ use Rattle.names.specs.Names.{limit, m, ordinary, ordinaryFrom, marker, endsWel
 use Rattle.numbers.proofs.Lists.{take-min}
 use Rattle.numbers.specs.Bytes.{Bytes}
 use Rattle.slots.specs.Tuples.{tupleAt, tuplesAt, tupleSize}
-use Rattle.slots.specs.Slots.{headSize, depthOf, nameOf}
+use Rattle.slots.specs.Slots.{headSize, depthOf, nameOver, nameOf}
 use Rattle.slots.proofs.TuplesInBytes.{length-tuplesAt, getD-tuplesAt, take-tuplesAt}
 
 -- a tuple before the last of a name
@@ -51,9 +51,12 @@ unfolding isName
 name-by s p zero h e = absurd (not-suc-le-zero h)
 name-by s p (suc n) h e = rw e
 
--- the name of a slot is read in one piece
+-- the name of a slot with room for so many tuples is read in one piece
+pub name-over : (room : ℕ) (s : Bytes) (d : ℕ) → d ≡ min (depthOf s) room → tuplesAt s headSize d ≡ nameOver room s
+name-over room s d e =
+    sym (take-tuplesAt s headSize room d (omega arith))
+    ∙ ap (λ (k : ℕ). take k (tuplesAt s headSize room)) e
+    ∙ take-min (depthOf s) room (tuplesAt s headSize room) (length-tuplesAt s headSize room)
+
 pub name-is : (s : Bytes) (d : ℕ) → d ≡ min (depthOf s) limit → tuplesAt s headSize d ≡ nameOf s
-name-is s d e =
-    sym (take-tuplesAt s headSize limit d (omega arith))
-    ∙ ap (λ (k : ℕ). take k (tuplesAt s headSize limit)) e
-    ∙ take-min (depthOf s) limit (tuplesAt s headSize limit) (length-tuplesAt s headSize limit)
+name-is = name-over limit

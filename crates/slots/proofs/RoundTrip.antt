@@ -1,34 +1,34 @@
--- The decoder and the encoder of slots are inverse: `slot-back`, of every slot value, and `bytes-back`, of all bytes that keep
--- a slot's layout. What is encoded keeps the layout, `encoded-keeps`, and what is decoded is a slot value, `decoded-slot`.
--- Assumes nothing.
+-- The decoder and the encoder of slots are inverse, for slots with room for any number of tuples (the laws whose names end in `over`) and so
+-- for a slot: `slot-back`, of every slot value, and `bytes-back`, of all bytes that keep a slot's layout. What is encoded keeps the
+-- layout, `encoded-keeps`, and what is decoded is a slot value, `decoded-slot`; more room is zeros after the same bytes, `wider`. Assumes
+-- nothing.
 use mathlib.Core.Path.{_≡_, refl, _∙_, sym, ap}
-use mathlib.Core.List.{List, [], _∷_, _++_, append-assoc}
+use mathlib.Core.List.{[], _∷_, _++_, append-assoc}
 use mathlib.Core.Bool.{true, _&&_}
-use Prim.Native.Nat.{ℕ, zero, suc, _+_, _-_, _*_, _/_, _%_, _<_, _≤_}
-use native.Mathlib.Decide.{decLt}
+use Prim.Native.Nat.{ℕ, zero, suc, _+_, _-_, _*_, _<_, _≤_}
 use native.Mathlib.Nat.{add-assoc}
 use native.Mathlib.Omega.{arith}
 use borrow.Author.Tests.{le-leb, eq-eqb, leb-true, eqb-true}
-use lib.ListN.{length, take, drop, getD, replicate, length-append, length-replicate, length-take, length-drop, take-append-drop}
-use lib.Seq.{drop-cons, drop-drop, take-add, getD-append-add, drop-at}
+use lib.ListN.{length, take, drop, getD, replicate, length-append, length-replicate, length-take, length-drop, take-append-drop, replicate-append-replicate}
+use lib.Seq.{drop-cons, drop-at}
 use lib.Dec.{leb, eqb}
 use lib.IntN.{ℤ, pos, negsuc}
 use Rattle.names.specs.declared.Tuple.{Tuple}
 use Rattle.names.specs.Ordering.{Row, _<ᶻ_, up, across, down}
-use Rattle.names.specs.Names.{limit, fits, within, m, isName}
+use Rattle.names.specs.Names.{limit, within, isName}
 use Rattle.names.proofs.Validity.{Ordinary, Middle, plain, marker-m, marker-M, Ends, final, onward, name-valid, valid-ends}
 use Rattle.numbers.proofs.Bools.{and-0, and-1}
-use Rattle.numbers.specs.Bytes.{Bytes, Octets, at16, at32, signed, unsigned, allZero, bytes16, bytes32}
+use Rattle.numbers.specs.Bytes.{Bytes, Octets, at16, at32, signed, unsigned, allZero, bytes32}
 use Rattle.slots.specs.Tuples.{tupleAt, tuplesAt, tupleSize, tupleBytes, rowBytes}
 use Rattle.slots.specs.Laws.{Laws}
-use Rattle.slots.specs.Slots.{bytesOver, keepsOver, Slot, headSize, slotSize, depthOf, nameOf, lineOf, slotOf, keepsSlot, slotBytes, isSlot}
-use Rattle.numbers.proofs.ReadNumbers.{fits16, fits32}
+use Rattle.slots.specs.Slots.{sizeOver, nameOver, slotOver, keepsOver, bytesOver, isSlotOver, Slot, headSize, slotSize, depthOf, lineOf, slotOf, keepsSlot, slotBytes, isSlot}
+use Rattle.numbers.proofs.ReadNumbers.{fits32}
 use Rattle.numbers.proofs.Lists.{next-to}
 use Rattle.numbers.proofs.NumberBytes.{here16, here32, at16-past, at32-past, sum16, back32}
 use Rattle.numbers.proofs.TwosComplement.{Word, high, low, unsigned-signed, signed-unsigned}
 use Rattle.numbers.proofs.Zeros.{all-zeros, zeros-zero}
 use Rattle.slots.proofs.TuplesInBytes.{length-tuplesAt, take-tuplesAt}
-use Rattle.slots.proofs.NameTests.{name-is}
+use Rattle.slots.proofs.NameTests.{name-over}
 use Rattle.slots.proofs.WrittenSlots.{tuple-length, row-length}
 
 -- ── from bytes to a slot and back ──
@@ -36,13 +36,25 @@ use Rattle.slots.proofs.WrittenSlots.{tuple-length, row-length}
 front-length : (x : Slot) → length (((length (x .name) ∷ 0 ∷ 0 ∷ 0 ∷ []) ++ bytes32 (x .line)) ++ rowBytes (x .name)) ≡ headSize + tupleSize * length (x .name)
 front-length x = length-append ((length (x .name) ∷ 0 ∷ 0 ∷ 0 ∷ []) ++ bytes32 (x .line)) (rowBytes (x .name)) ∙ ap (λ (n : ℕ). headSize + n) (row-length (x .name))
 
--- a name of at most `limit` tuples fills a slot
-pub slot-length : (x : Slot) → length (x .name) ≤ limit → length (slotBytes x) ≡ slotSize
+-- a name of no more tuples than there is room for fills a slot
+pub length-over : (room : ℕ) (x : Slot) → length (x .name) ≤ room → length (bytesOver room x) ≡ sizeOver room
 unfolding bytesOver
-slot-length x f =
+length-over room x f =
     let e = front-length x in
-    let z = length-replicate {A = ℕ} (tupleSize * (limit - length (x .name))) 0 in
-    length-append (((length (x .name) ∷ 0 ∷ 0 ∷ 0 ∷ []) ++ bytes32 (x .line)) ++ rowBytes (x .name)) (replicate (tupleSize * (limit - length (x .name))) 0) ∙ omega arith
+    let z = length-replicate {A = ℕ} (tupleSize * (room - length (x .name))) 0 in
+    length-append (((length (x .name) ∷ 0 ∷ 0 ∷ 0 ∷ []) ++ bytes32 (x .line)) ++ rowBytes (x .name)) (replicate (tupleSize * (room - length (x .name))) 0) ∙ omega arith
+
+-- with more room the bytes are the same, and zeros after them
+pub wider : (room more : ℕ) (x : Slot) → room ≤ more → length (x .name) ≤ room → bytesOver more x ≡ bytesOver room x ++ replicate (tupleSize * (more - room)) 0
+unfolding bytesOver
+wider room more x h f =
+    let front = ((length (x .name) ∷ 0 ∷ 0 ∷ 0 ∷ []) ++ bytes32 (x .line)) ++ rowBytes (x .name) in
+    let n = tupleSize * (room - length (x .name)) in
+    let k = tupleSize * (more - room) in
+    let e : tupleSize * (more - length (x .name)) ≡ n + k = omega arith in
+    ap (λ (j : ℕ). front ++ replicate j 0) e
+    ∙ ap (λ (z : Bytes). front ++ z) (sym (replicate-append-replicate n k 0))
+    ∙ sym (append-assoc front (replicate n 0) (replicate k 0))
 
 module _ (s : Bytes) (k : Octets s) where
   here-tuple : (p : ℕ) → p + tupleSize ≤ length s → tupleBytes (tupleAt s p) ≡ take tupleSize (drop p s)
@@ -62,41 +74,41 @@ module _ (s : Bytes) (k : Octets s) where
       ∙ next-to s p tupleSize (tupleSize * n)
       ∙ ap (λ (j : ℕ). take j (drop p s)) (sym e)
 
--- what the check of a slot has found
-pub record Kept (s : Bytes) : Type 0 where
-  pub long : length s ≡ slotSize
+-- what the check of a slot with room for so many tuples has found
+pub record KeptOver (room : ℕ) (s : Bytes) : Type 0 where
+  pub long : length s ≡ sizeOver room
   pub deep : 1 ≤ depthOf s
-  pub fit : depthOf s ≤ limit
+  pub fit : depthOf s ≤ room
   pub blank : allZero (take 3 (drop 1 s)) ≡ true
-  pub named : isName (nameOf s) ≡ true
+  pub named : isName (nameOver room s) ≡ true
   pub rest : allZero (drop (headSize + tupleSize * depthOf s) s) ≡ true
 
-pub kept : (s : Bytes) → keepsSlot s ≡ true → Kept s
+pub kept-over : (room : ℕ) (s : Bytes) → keepsOver room s ≡ true → KeptOver room s
 unfolding keepsOver
-kept s e =
-    let a = eqb (length s) slotSize in
-    let b = within 1 limit (depthOf s) in
+kept-over room s e =
+    let a = eqb (length s) (sizeOver room) in
+    let b = within 1 room (depthOf s) in
     let c = allZero (take 3 (drop 1 s)) in
-    let d = isName (nameOf s) in
+    let d = isName (nameOver room s) in
     let r = allZero (drop (headSize + tupleSize * depthOf s) s) in
     let e₄ = and-0 (a && b && c && d) r e in
     let e₃ = and-0 (a && b && c) d e₄ in
     let e₂ = and-0 (a && b) c e₃ in
     let w = and-1 a b e₂ in
     record {
-      long = eqb-true (length s) slotSize (and-0 a b e₂);
-      deep = leb-true 1 (depthOf s) (and-0 (leb 1 (depthOf s)) (leb (depthOf s) limit) w);
-      fit = leb-true (depthOf s) limit (and-1 (leb 1 (depthOf s)) (leb (depthOf s) limit) w);
+      long = eqb-true (length s) (sizeOver room) (and-0 a b e₂);
+      deep = leb-true 1 (depthOf s) (and-0 (leb 1 (depthOf s)) (leb (depthOf s) room) w);
+      fit = leb-true (depthOf s) room (and-1 (leb 1 (depthOf s)) (leb (depthOf s) room) w);
       blank = and-1 (a && b) c e₃;
       named = and-1 (a && b && c) d e₄;
       rest = and-1 (a && b && c && d) r e;
     }
 
-module _ (s : Bytes) (k : Octets s) (v : Kept s) where
-  row : nameOf s ≡ tuplesAt s headSize (depthOf s)
-  row = let f = v .fit in sym (name-is s (depthOf s) (omega arith))
+module _ (room : ℕ) (s : Bytes) (k : Octets s) (v : KeptOver room s) where
+  row : nameOver room s ≡ tuplesAt s headSize (depthOf s)
+  row = let f = v .fit in sym (name-over room s (depthOf s) (omega arith))
 
-  deep-is : length (nameOf s) ≡ depthOf s
+  deep-is : length (nameOver room s) ≡ depthOf s
   deep-is = ap length row ∙ length-tuplesAt s headSize (depthOf s)
 
   first : depthOf s ∷ [] ≡ take 1 (drop 0 s)
@@ -107,31 +119,31 @@ module _ (s : Bytes) (k : Octets s) (v : Kept s) where
       let l : length (take 3 (drop 1 s)) ≡ 3 = simp (length-take, length-drop) (omega (arith, v .long)) in
       sym (all-zeros (take 3 (drop 1 s)) (v .blank) ∙ ap (λ (n : ℕ). replicate n 0) l)
 
-  tail : replicate (tupleSize * (limit - depthOf s)) 0 ≡ drop (headSize + tupleSize * depthOf s) s
+  tail : replicate (tupleSize * (room - depthOf s)) 0 ≡ drop (headSize + tupleSize * depthOf s) s
   tail =
       let f = v .fit in
-      let l : length (drop (headSize + tupleSize * depthOf s) s) ≡ tupleSize * (limit - depthOf s) = simp length-drop (omega (arith, v .long)) in
+      let l : length (drop (headSize + tupleSize * depthOf s) s) ≡ tupleSize * (room - depthOf s) = simp length-drop (omega (arith, v .long)) in
       sym (all-zeros (drop (headSize + tupleSize * depthOf s) s) (v .rest) ∙ ap (λ (n : ℕ). replicate n 0) l)
 
-  pub bytes-back : slotBytes (slotOf s) ≡ s
+  pub back-over : bytesOver room (slotOver room s) ≡ s
   unfolding bytesOver
-  bytes-back =
+  back-over =
       let f = v .fit in
       let l = v .long in
       (λ i. (deep-is i ∷ 0 ∷ 0 ∷ 0 ∷ []) ++ here32 s k 4 (omega arith) i ++ (ap rowBytes row ∙ here-row s k headSize (depthOf s) (omega arith)) i
-      ++ (ap (λ (n : ℕ). replicate (tupleSize * (limit - n)) 0) deep-is ∙ tail) i)
+      ++ (ap (λ (n : ℕ). replicate (tupleSize * (room - n)) 0) deep-is ∙ tail) i)
       ∙ (λ i. first i ++ three i ++ take 4 (drop 4 s) ++ take (tupleSize * depthOf s) (drop headSize s) ++ drop (headSize + tupleSize * depthOf s) s)
       ∙ (λ i. next-to s 0 1 3 i ++ take 4 (drop 4 s) ++ take (tupleSize * depthOf s) (drop headSize s) ++ drop (headSize + tupleSize * depthOf s) s)
       ∙ (λ i. next-to s 0 4 4 i ++ take (tupleSize * depthOf s) (drop headSize s) ++ drop (headSize + tupleSize * depthOf s) s)
       ∙ (λ i. next-to s 0 headSize (tupleSize * depthOf s) i ++ drop (headSize + tupleSize * depthOf s) s)
       ∙ take-append-drop (headSize + tupleSize * depthOf s) s
 
-  pub decoded-slot : isSlot (slotOf s) ≡ true
-  decoded-slot =
+  pub decoded-over : isSlotOver room (slotOver room s) ≡ true
+  decoded-over =
       let f = v .fit in
       let q : lineOf s ≤ 4294967295 = omega (arith, fits32 s 4 k) in
-      let r : length (nameOf s) ≤ limit = omega (arith, deep-is) in
-      simp (le-leb (lineOf s) 4294967295 q, v .named, le-leb (length (nameOf s)) limit r)
+      let r : length (nameOver room s) ≤ room = omega (arith, deep-is) in
+      simp (le-leb (lineOf s) 4294967295 q, v .named, le-leb (length (nameOver room s)) room r)
 
 -- ── from a slot to bytes and back ──
 
@@ -196,44 +208,70 @@ unfolding isName
 name-long [] e = absurd (let z : _≡_ {A = ℕ} 0 1 = cc in omega arith)
 name-long (t ∷ a) e = omega arith
 
-module _ (x : Slot) (h : isSlot x ≡ true) where
+module _ (room : ℕ) (x : Slot) (h : isSlotOver room x ≡ true) where
   named : isName (x .name) ≡ true
-  named = and-1 (leb (x .line) 4294967295) (isName (x .name)) (and-0 (leb (x .line) 4294967295 && isName (x .name)) (fits (x .name)) h)
+  named = and-1 (leb (x .line) 4294967295) (isName (x .name)) (and-0 (leb (x .line) 4294967295 && isName (x .name)) (leb (length (x .name)) room) h)
 
-  fit : length (x .name) ≤ limit
-  fit = leb-true (length (x .name)) limit (and-1 (leb (x .line) 4294967295 && isName (x .name)) (fits (x .name)) h)
+  fit : length (x .name) ≤ room
+  fit = leb-true (length (x .name)) room (and-1 (leb (x .line) 4294967295 && isName (x .name)) (leb (length (x .name)) room) h)
 
-  split : slotBytes x ≡ ((length (x .name) ∷ 0 ∷ 0 ∷ 0 ∷ []) ++ bytes32 (x .line)) ++ (rowBytes (x .name) ++ replicate (tupleSize * (limit - length (x .name))) 0)
+  split : bytesOver room x ≡ ((length (x .name) ∷ 0 ∷ 0 ∷ 0 ∷ []) ++ bytes32 (x .line)) ++ (rowBytes (x .name) ++ replicate (tupleSize * (room - length (x .name))) 0)
   unfolding bytesOver
-  split = append-assoc ((length (x .name) ∷ 0 ∷ 0 ∷ 0 ∷ []) ++ bytes32 (x .line)) (rowBytes (x .name)) (replicate (tupleSize * (limit - length (x .name))) 0)
+  split = append-assoc ((length (x .name) ∷ 0 ∷ 0 ∷ 0 ∷ []) ++ bytes32 (x .line)) (rowBytes (x .name)) (replicate (tupleSize * (room - length (x .name))) 0)
 
-  name-back : nameOf (slotBytes x) ≡ x .name
+  name-back : nameOver room (bytesOver room x) ≡ x .name
   name-back =
-      ap nameOf split
-      ∙ take-tuplesAt (((length (x .name) ∷ 0 ∷ 0 ∷ 0 ∷ []) ++ bytes32 (x .line)) ++ (rowBytes (x .name) ++ replicate (tupleSize * (limit - length (x .name))) 0)) headSize limit (length (x .name)) fit
-      ∙ row-back ((length (x .name) ∷ 0 ∷ 0 ∷ 0 ∷ []) ++ bytes32 (x .line)) (x .name) (replicate (tupleSize * (limit - length (x .name))) 0) (name-words (x .name) named)
+      ap (nameOver room) split
+      ∙ take-tuplesAt (((length (x .name) ∷ 0 ∷ 0 ∷ 0 ∷ []) ++ bytes32 (x .line)) ++ (rowBytes (x .name) ++ replicate (tupleSize * (room - length (x .name))) 0)) headSize room (length (x .name)) fit
+      ∙ row-back ((length (x .name) ∷ 0 ∷ 0 ∷ 0 ∷ []) ++ bytes32 (x .line)) (x .name) (replicate (tupleSize * (room - length (x .name))) 0) (name-words (x .name) named)
 
-  line-back : lineOf (slotBytes x) ≡ x .line
+  line-back : lineOf (bytesOver room x) ≡ x .line
   line-back = ap lineOf split ∙ back32 (x .line) []
 
-  pub slot-back : slotOf (slotBytes x) ≡ x
-  slot-back = λ i. record { line = line-back i; name = name-back i }
+  pub slot-back-over : slotOver room (bytesOver room x) ≡ x
+  slot-back-over = λ i. record { line = line-back i; name = name-back i }
 
-  pub encoded-length : length (slotBytes x) ≡ slotSize
-  encoded-length = slot-length x fit
+  pub encoded-length-over : length (bytesOver room x) ≡ sizeOver room
+  encoded-length-over = length-over room x fit
 
-  pub encoded-keeps : keepsSlot (slotBytes x) ≡ true
+  pub encoded-over : keepsOver room (bytesOver room x) ≡ true
   unfolding keepsOver bytesOver
-  encoded-keeps =
+  encoded-over =
       let f = fit in
       let n = name-long (x .name) named in
-      let r = ap allZero (drop-at (((length (x .name) ∷ 0 ∷ 0 ∷ 0 ∷ []) ++ bytes32 (x .line)) ++ rowBytes (x .name)) (replicate (tupleSize * (limit - length (x .name))) 0) (headSize + tupleSize * length (x .name)) (front-length x)) ∙ zeros-zero (tupleSize * (limit - length (x .name))) in
+      let r = ap allZero (drop-at (((length (x .name) ∷ 0 ∷ 0 ∷ 0 ∷ []) ++ bytes32 (x .line)) ++ rowBytes (x .name)) (replicate (tupleSize * (room - length (x .name))) 0) (headSize + tupleSize * length (x .name)) (front-length x)) ∙ zeros-zero (tupleSize * (room - length (x .name))) in
       λ i.
-      eq-eqb (length (slotBytes x)) slotSize encoded-length i
-      && (le-leb 1 (length (x .name)) n i && le-leb (length (x .name)) limit f i)
+      eq-eqb (length (bytesOver room x)) (sizeOver room) encoded-length-over i
+      && (le-leb 1 (length (x .name)) n i && le-leb (length (x .name)) room f i)
       && true
       && (ap isName name-back ∙ named) i
       && r i
+
+-- ── a slot ──
+
+abbrev pub Kept : Bytes → Type 0
+Kept s = KeptOver limit s
+
+pub kept : (s : Bytes) → keepsSlot s ≡ true → Kept s
+kept = kept-over limit
+
+pub slot-length : (x : Slot) → length (x .name) ≤ limit → length (slotBytes x) ≡ slotSize
+slot-length = length-over limit
+
+pub bytes-back : (s : Bytes) → Octets s → Kept s → slotBytes (slotOf s) ≡ s
+bytes-back = back-over limit
+
+pub decoded-slot : (s : Bytes) → Octets s → Kept s → isSlot (slotOf s) ≡ true
+decoded-slot = decoded-over limit
+
+pub slot-back : (x : Slot) → isSlot x ≡ true → slotOf (slotBytes x) ≡ x
+slot-back = slot-back-over limit
+
+pub encoded-length : (x : Slot) → isSlot x ≡ true → length (slotBytes x) ≡ slotSize
+encoded-length = encoded-length-over limit
+
+pub encoded-keeps : (x : Slot) → isSlot x ≡ true → keepsSlot (slotBytes x) ≡ true
+encoded-keeps = encoded-over limit
 
 pub laws : Laws
 laws = record {

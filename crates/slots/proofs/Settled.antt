@@ -8,7 +8,6 @@ use Rattle.slots.proofs.read_tuple.Reads as read-tuple
 use Rattle.slots.proofs.read_row.Reads as read-row
 use Rattle.slots.proofs.depth.Reads as depth
 use Rattle.slots.proofs.read_line.Reads as read-line
-use Rattle.slots.proofs.read_name.Reads as read-name
 use Rattle.slots.proofs.compare_rows.Reads as compare-rows
 use Rattle.slots.proofs.compare_to_one.Reads as compare-to-one
 use Rattle.slots.proofs.compare_slots.Reads as compare-slots
@@ -16,7 +15,9 @@ use Rattle.slots.proofs.name_at.Reads as name-at
 use Rattle.slots.proofs.slot_ok.Reads as slot-ok
 use Rattle.slots.proofs.write_tuple.Reads as write-tuple
 use Rattle.slots.proofs.write_row.Reads as write-row
+use Rattle.slots.proofs.copy_row.Reads as copy-row
 use Rattle.slots.proofs.write_slot.Reads as write-slot
+use Rattle.slots.proofs.copy_slot.Reads as copy-slot
 
 pub read-tuple-settled : (κs : _) (a : _) (r : _) (s : _) (r' : _) (s' : _) → read-tuple.Learnt κs a r s → read-tuple.Learnt κs a r' s' → r ≡ r'
 read-tuple-settled κs a r s r' s' p q = one p q
@@ -29,9 +30,6 @@ depth-settled κs a r s r' s' p q = one p q
 
 pub read-line-settled : (κs : _) (a : _) (r : _) (s : _) (r' : _) (s' : _) → read-line.Learnt κs a r s → read-line.Learnt κs a r' s' → r ≡ r'
 read-line-settled κs a r s r' s' p q = one p q
-
-pub read-name-settled : (κs : _) (a : _) (r : _) (s : _) (r' : _) (s' : _) → read-name.Learnt κs a r s → read-name.Learnt κs a r' s' → rowOf r ≡ rowOf r'
-read-name-settled κs a r s r' s' p q = one p q
 
 pub compare-rows-settled : (κs : _) (a : _) (r : _) (s : _) (r' : _) (s' : _) → compare-rows.Learnt κs a r s → compare-rows.Learnt κs a r' s' → r ≡ r'
 compare-rows-settled κs a r s r' s' p q = one p q
@@ -54,5 +52,11 @@ write-tuple-settled κs a r s r' s' p q = one p q
 pub write-row-settled : (κs : _) (a : _) (r : _) (s : _) (r' : _) (s' : _) → write-row.Learnt κs a r s → write-row.Learnt κs a r' s' → now (s .0) ≡ now (s' .0)
 write-row-settled κs a r s r' s' p q = one p q
 
+pub copy-row-settled : (κs : _) (a : _) (r : _) (s : _) (r' : _) (s' : _) → copy-row.Learnt κs a r s → copy-row.Learnt κs a r' s' → now (s .0) ≡ now (s' .0)
+copy-row-settled κs a r s r' s' p q = one p q
+
 pub write-slot-settled : (κs : _) (a : _) (r : _) (s : _) (r' : _) (s' : _) → write-slot.Learnt κs a r s → write-slot.Learnt κs a r' s' → now (s .0) ≡ now (s' .0)
 write-slot-settled κs a r s r' s' p q = one p q
+
+pub copy-slot-settled : (κs : _) (a : _) (r : _) (s : _) (r' : _) (s' : _) → copy-slot.Learnt κs a r s → copy-slot.Learnt κs a r' s' → now (s .0) ≡ now (s' .0)
+copy-slot-settled κs a r s r' s' p q = one p q

@@ -1,18 +1,18 @@
--- Numbers and rows as bytes. Assumes nothing.
+-- Numbers, rows and slots as bytes. Assumes nothing.
 use mathlib.Core.Path.{_≡_, refl, _∙_, sym, ap}
 use mathlib.Core.List.{[], _∷_, _++_, append-assoc, append-nil}
-use Prim.Native.Nat.{ℕ, _+_, _-_, _*_, _/_, _%_, _<_}
+use Prim.Native.Nat.{ℕ, _+_, _-_, _*_, _/_, _%_, _<_, _≤_}
 use native.Mathlib.Numerals.{add-one}
 use native.Mathlib.Omega.{arith}
-use lib.ListN.{length, take, getD, replicate, length-append, replicate-append-replicate}
+use lib.ListN.{length, take, getD, replicate, length-append}
 use lib.Seq.{take-suc}
 use Rattle.names.specs.declared.Tuple.{Tuple}
 use Rattle.names.specs.Ordering.{Row}
 use Rattle.names.specs.Names.{m, limit}
-use Rattle.numbers.specs.Bytes.{Bytes, bytes16, bytes32}
+use Rattle.numbers.specs.Bytes.{Bytes, bytes16, bytes32, put}
 use Rattle.slots.specs.Tuples.{tupleBytes, rowBytes, tupleSize}
-use Rattle.slots.specs.Slots.{bytesOver, slotBytes}
-use Rattle.numbers.proofs.ReadNumbers.{mod256, div256, div65536, div16777216}
+use Rattle.slots.specs.Slots.{bytesOver, slotBytes, headSize}
+use Rattle.numbers.proofs.Put.{put-more}
 
 -- the depth and three zeros as one number
 depth-high : (d : ℕ) → d * 16777216 / 65536 / 256 ≡ d
@@ -52,9 +52,14 @@ row-more a k h =
 
 -- ── slots ──
 
-pub slot-bytes : (line d : ℕ) (a : Row) → d ≡ length a → bytes32 (d * 16777216) ++ bytes32 line ++ rowBytes a ++ replicate (4 * (3 * (limit - d))) 0 ≡ slotBytes (record { line = line; name = a })
-unfolding bytesOver
-slot-bytes line d a e =
-    let f : 4 * (3 * (limit - d)) ≡ tupleSize * (limit - length a) = omega arith in
-    (λ i. depth-bytes d i ++ bytes32 line ++ rowBytes a ++ replicate (f i) 0)
-    ∙ ap (λ (n : ℕ). (n ∷ 0 ∷ 0 ∷ 0 ∷ []) ++ bytes32 line ++ rowBytes a ++ replicate (tupleSize * (limit - length a)) 0) e
+-- what stands before the tuples, the tuples and the zeros after them, written one after the other: a slot
+module _ (o : Bytes) (p : ℕ) (h : p ≤ length o) (line d : ℕ) (a : Row) (e : d ≡ length a) where
+  pub slot-written : {x y z : Bytes} → x ≡ put o p ((d ∷ 0 ∷ 0 ∷ 0 ∷ []) ++ bytes32 line) → y ≡ put x (p + headSize) (rowBytes a)
+      → z ≡ put y (p + headSize + tupleSize * d) (replicate (tupleSize * (limit - d)) 0) → z ≡ put o p (slotBytes (record { line = line; name = a }))
+  unfolding bytesOver
+  slot-written f g k =
+      let head = (d ∷ 0 ∷ 0 ∷ 0 ∷ []) ++ bytes32 line in
+      let l : length (head ++ rowBytes a) ≡ headSize + tupleSize * length a = length-append head (rowBytes a) ∙ ap (λ (n : ℕ). headSize + n) (row-length a) in
+      let q : p + headSize + tupleSize * d ≡ p + length (head ++ rowBytes a) = omega (arith, l) in
+      put-more o p h (head ++ rowBytes a) (replicate (tupleSize * (limit - d)) 0) (put-more o p h head (rowBytes a) f refl g) q k
+      ∙ ap (λ (n : ℕ). put o p ((n ∷ 0 ∷ 0 ∷ 0 ∷ []) ++ bytes32 line ++ rowBytes a ++ replicate (tupleSize * (limit - n)) 0)) e

@@ -9,7 +9,7 @@ pub record Laws : Type 0 where
   -- bytes that keep a slot's layout are the bytes of what they say, which is a slot
   pub bytes-back : (s : Bytes) → Octets s → keepsSlot s ≡ true → slotBytes (slotOf s) ≡ s
   pub decoded : (s : Bytes) → Octets s → keepsSlot s ≡ true → isSlot (slotOf s) ≡ true
-  -- what the bytes of a slot say is that slot, and they keep the layout, "104 bytes"
+  -- what the bytes of a slot say is that slot, and they keep the layout, as long as a slot
   pub slot-back : (x : Slot) → isSlot x ≡ true → slotOf (slotBytes x) ≡ x
   pub encoded : (x : Slot) → isSlot x ≡ true → keepsSlot (slotBytes x) ≡ true
   pub long : (x : Slot) → isSlot x ≡ true → length (slotBytes x) ≡ slotSize

@@ -7,7 +7,7 @@ use mathlib.Core.Bool.{Bool, _&&_}
 use lib.ListN.{length, take, drop, getD, replicate}
 use lib.Dec.{eqb, leb}
 use Rattle.names.specs.Ordering.{Row}
-use Rattle.names.specs.Names.{limit, fits, within, isName}
+use Rattle.names.specs.Names.{limit, within, isName}
 use Rattle.numbers.specs.Bytes.{Bytes, at32, allZero, bytes32}
 use Rattle.slots.specs.Tuples.{tuplesAt, tupleSize, rowBytes}
 
@@ -32,9 +32,13 @@ module _ (room : ℕ) where
   abbrev pub sizeOver : ℕ
   sizeOver = headSize + tupleSize * room
 
-  -- "eight tuples of 12 bytes, the first depth of them a name"
+  -- "tuples of 12 bytes, the first depth of them a name"
   abbrev pub nameOver : Bytes → Row
   nameOver s = take (depthOf s) (tuplesAt s headSize room)
+
+  -- the decoder
+  abbrev pub slotOver : Bytes → Slot
+  slotOver s = record { line = lineOf s; name = nameOver s }
 
   -- the bytes keep a slot's layout
   unfoldable pub keepsOver : Bytes → Bool
@@ -42,11 +46,15 @@ module _ (room : ℕ) where
       eqb (length s) sizeOver && within 1 room (depthOf s) && allZero (take 3 (drop 1 s)) && isName (nameOver s)
       && allZero (drop (headSize + tupleSize * depthOf s) s)
 
-  -- the bytes of what a slot says
+  -- the encoder: the bytes of what a slot says
   unfoldable pub bytesOver : Slot → Bytes
   bytesOver x =
       (length (x .name) ∷ 0 ∷ 0 ∷ 0 ∷ []) ++ bytes32 (x .line) ++ rowBytes (x .name)
       ++ replicate (tupleSize * (room - length (x .name))) 0
+
+  -- a slot's line number is a u32 and its name a name of at most that many tuples
+  abbrev pub isSlotOver : Slot → Bool
+  isSlotOver x = leb (x .line) 4294967295 && isName (x .name) && leb (length (x .name)) room
 
 -- ── a slot ──
 
@@ -59,7 +67,7 @@ abbrev pub nameOf : Bytes → Row
 nameOf s = nameOver limit s
 
 abbrev pub slotOf : Bytes → Slot
-slotOf s = record { line = lineOf s; name = nameOf s }
+slotOf s = slotOver limit s
 
 -- the layout
 abbrev pub keepsSlot : Bytes → Bool
@@ -69,6 +77,5 @@ keepsSlot = keepsOver limit
 abbrev pub slotBytes : Slot → Bytes
 slotBytes = bytesOver limit
 
--- a slot's line number is a u32 and its name a name of at most `limit` tuples
 abbrev pub isSlot : Slot → Bool
-isSlot x = leb (x .line) 4294967295 && isName (x .name) && fits (x .name)
+isSlot = isSlotOver limit

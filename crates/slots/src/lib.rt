@@ -2,15 +2,15 @@
 // Document 01, "Pages, logs, epochs"; the definitions are in specs/.
 ghost use mathlib.Core.Path.{_≡_};
 ghost use mathlib.Core.Bool.{_||_};
-ghost use Prim.Native.Nat.{_+_, _*_, _%_, _≤_, _<_, min};
-ghost use mathlib.Core.List.{[], _∷_};
-ghost use lib.ListN.{length, take, drop};
+ghost use Prim.Native.Nat.{_+_, _-_, _*_, _%_, _≤_, _<_, min};
+ghost use mathlib.Core.List.{[], _∷_, _++_};
+ghost use lib.ListN.{length, take, drop, replicate};
 ghost use lib.IntN.{pos, negsuc};
 ghost use Rattle.names.specs.Ordering.{compareℕ, then, compareTuples, compareRows};
 ghost use Rattle.names.specs.Names.{limit, rowOf, ordinary, ordinaryFrom, marker, isName, withinℤ};
-ghost use Rattle.numbers.specs.Bytes.{signed, allZero, put};
-ghost use Rattle.slots.specs.Tuples.{tupleAt, tuplesAt, tupleSize, tupleBytes, rowBytes};
-ghost use Rattle.slots.specs.Slots.{headSize, slotSize, depthOf, lineOf, nameOf, keepsSlot, slotBytes};
+ghost use Rattle.numbers.specs.Bytes.{signed, allZero, bytes32, put};
+ghost use Rattle.slots.specs.Tuples.{tupleAt, tuplesAt, rowAt, Lies, tupleSize, tupleBytes, rowBytes};
+ghost use Rattle.slots.specs.Slots.{headSize, sizeOver, nameOver, keepsOver, slotSize, depthOf, lineOf, slotBytes};
 use names::LIMIT;
 use names::Name;
 use names::Order;
@@ -85,13 +85,21 @@ pub fn read_row(s: &[u8], p: usize, n: usize) -> Name
     Name { depth: n, tuples }
 }
 
+// How many of the tuples of a slot with room for so many are the name's.
+fn depth_over(s: &[u8], room: usize) -> usize
+    requires { ⌜ 0 < length (now s) ⌝ }
+    ensures { λ r. ⌜ r ≡ min (depthOf (now (s .entry))) room ⌝ }
+{
+    let d = s[0] as usize;
+    if d < room { d } else { room }
+}
+
 // How many of a slot's tuples are the name's.
 pub fn depth(s: &[u8]) -> usize
     requires { ⌜ 0 < length (now s) ⌝ }
     ensures { λ r. ⌜ r ≡ min (depthOf (now (s .entry))) limit ⌝ }
 {
-    let d = s[0] as usize;
-    if d < LIMIT { d } else { LIMIT }
+    depth_over(s, LIMIT)
 }
 
 // The line number in a slot.
@@ -100,14 +108,6 @@ pub fn read_line(s: &[u8]) -> u32
     ensures { λ r. ⌜ r ≡ lineOf (now (s .entry)) ⌝ }
 {
     numbers::read_u32(s, LINE)
-}
-
-// The name in a slot.
-pub fn read_name(s: &[u8]) -> Name
-    requires { ⌜ length (now s) ≡ slotSize ⌝ }
-    ensures { λ r. ⌜ rowOf r ≡ nameOf (now (s .entry)) ⌝ }
-{
-    read_row(s, HEAD, depth(s))
 }
 
 // Position, node and sequence of a tuple as one number, as its first eight bytes are: these compare as that number does.
@@ -209,12 +209,12 @@ pub fn compare_to_one(a: &[u8], p: usize, n: usize, t: Tuple) -> Order
     }
 }
 
-// The names of two slots compared.
-pub fn compare_slots(a: &[u8], b: &[u8]) -> Order
-    requires { ⌜ (length (now a) ≡ slotSize) × (length (now b) ≡ slotSize) ⌝ }
-    ensures { λ r. ⌜ r ≡ compareRows (nameOf (now (a .entry))) (nameOf (now (b .entry))) ⌝ }
+// The names of two slots with room for so many tuples compared.
+pub fn compare_slots(a: &[u8], b: &[u8], room: usize) -> Order
+    requires { ⌜ (length (now a) ≡ sizeOver room) × (length (now b) ≡ sizeOver room) ⌝ }
+    ensures { λ r. ⌜ r ≡ compareRows (nameOver room (now (a .entry))) (nameOver room (now (b .entry))) ⌝ }
 {
-    compare_rows(a, HEAD, depth(a), b, HEAD, depth(b))
+    compare_rows(a, HEAD, depth_over(a, room), b, HEAD, depth_over(b, room))
 }
 
 // Offsets -1..2147483646, by their bits: raised by one, with -1 at 0, they end at M's offset.
@@ -315,12 +315,12 @@ fn zero_at(s: &[u8], p: usize) -> bool
     }
 }
 
-// The tuples of a slot from d on are zero, looked at from the last.
-fn zero_after(s: &[u8], d: usize) -> bool
-    requires { ⌜ (length (now s) ≡ slotSize) × (d ≤ limit) ⌝ }
+// The tuples of a slot with room for so many are zero from d on, looked at from the last.
+fn zero_after(s: &[u8], d: usize, room: usize) -> bool
+    requires { ⌜ (length (now s) ≡ sizeOver room) × (d ≤ room) ⌝ }
     ensures { λ r. ⌜ r ≡ allZero (drop (headSize + tupleSize * d) (now (s .entry))) ⌝ }
 {
-    let mut k: usize = LIMIT;
+    let mut k: usize = room;
     loop {
         if k <= d {
             break true;
@@ -332,17 +332,17 @@ fn zero_after(s: &[u8], d: usize) -> bool
     }
 }
 
-// "A slot is 104 bytes: depth 1..8, three zero bytes, line number (u32, any value, repeats allowed), then eight tuples of
-// 12 bytes, the first depth of them a name, the rest all zero."
-pub fn slot_ok(s: &[u8]) -> bool
-    requires { ⌜ length (now s) ≡ slotSize ⌝ }
-    ensures { λ r. ⌜ r ≡ keepsSlot (now (s .entry)) ⌝ }
+// "depth 1..8, three zero bytes, line number (u32, any value, repeats allowed), then eight tuples of 12 bytes, the first depth of them
+// a name, the rest all zero", with so many tuples for eight.
+pub fn slot_ok(s: &[u8], room: usize) -> bool
+    requires { ⌜ (length (now s) ≡ sizeOver room) × (room ≤ limit) ⌝ }
+    ensures { λ r. ⌜ r ≡ keepsOver room (now (s .entry)) ⌝ }
 {
     let d = s[0] as usize;
     if d < 1 {
         return false;
     }
-    if LIMIT < d {
+    if room < d {
         return false;
     }
     if s[1] != 0 {
@@ -352,7 +352,7 @@ pub fn slot_ok(s: &[u8]) -> bool
         return false;
     }
     if name_at(s, HEAD, d) {
-        zero_after(s, d)
+        zero_after(s, d, room)
     } else {
         false
     }
@@ -381,14 +381,49 @@ pub fn write_row(out: &mut [u8], p: usize, a: Name)
     }
 }
 
-// A slot from p on: its depth, three zeros, the line number, the name's tuples, and zeros.
+// The n tuples that stand from `at` on in s, written from p on in out: copied as bytes, so that no name is held.
+pub fn copy_row(out: &mut [u8], p: usize, s: &[u8], at: usize, n: usize)
+    requires { ⌜ (p + tupleSize * n ≤ length (now out)) × (at + tupleSize * n ≤ length (now s)) ⌝ }
+    ensures { λ _. ⌜ now (out .exit) ≡ put (now (out .entry)) p (rowBytes (tuplesAt (now (s .entry)) at n)) ⌝ }
+{
+    let end = at + TUPLE * n;
+    numbers::copy(out, p, &s[at..end]);
+}
+
+// What stands before the d tuples of a slot: their number, "three zero bytes, line number".
+fn write_head(out: &mut [u8], p: usize, d: usize, line: u32)
+    requires { ⌜ (p + headSize ≤ length (now out)) × (d ≤ limit) ⌝ }
+    ensures { λ _. ⌜ now (out .exit) ≡ put (now (out .entry)) p ((d ∷ 0 ∷ 0 ∷ 0 ∷ []) ++ bytes32 line) ⌝ }
+{
+    numbers::write_u32(out, p, (d as u32) * 16777216);
+    numbers::write_u32(out, p + LINE, line);
+}
+
+// What stands after the d tuples of a slot: "the rest all zero".
+fn write_rest(out: &mut [u8], p: usize, d: usize)
+    requires { ⌜ (p + slotSize ≤ length (now out)) × (d ≤ limit) ⌝ }
+    ensures { λ _. ⌜ now (out .exit) ≡ put (now (out .entry)) (p + headSize + tupleSize * d) (replicate (tupleSize * (limit - d)) 0) ⌝ }
+{
+    numbers::write_zeros(out, p + HEAD + TUPLE * d, 3 * (LIMIT - d));
+}
+
+// A slot from p on.
 pub fn write_slot(out: &mut [u8], p: usize, line: u32, a: Name)
     requires { ⌜ p + slotSize ≤ length (now out) ⌝ }
     ensures { λ _. ⌜ now (out .exit) ≡ put (now (out .entry)) p (slotBytes (record { line = line; name = rowOf a })) ⌝ }
 {
     let d = names::tuples_in(a);
-    numbers::write_u32(out, p, (d as u32) * 16777216);
-    numbers::write_u32(out, p + LINE, line);
+    write_head(out, p, d, line);
     write_row(out, p + HEAD, a);
-    numbers::write_zeros(out, p + HEAD + TUPLE * d, 3 * (LIMIT - d));
+    write_rest(out, p, d);
+}
+
+// A slot from p on, of a name that stands in other bytes.
+pub fn copy_slot(out: &mut [u8], p: usize, line: u32, s: &[u8], name: Span)
+    requires { ⌜ (p + slotSize ≤ length (now out)) × Lies (now s) name ⌝ }
+    ensures { λ _. ⌜ now (out .exit) ≡ put (now (out .entry)) p (slotBytes (record { line = line; name = rowAt (now (s .entry)) name })) ⌝ }
+{
+    write_head(out, p, name.count, line);
+    copy_row(out, p + HEAD, s, name.at, name.count);
+    write_rest(out, p, name.count);
 }

@@ -1,50 +1,49 @@
--- The names of slots written as fields one after the other (`Filling`, a loop's invariant), the sizes of these fields (`size-next`,
--- `size-end`), and the field of the line number, where there is one (`line-there`, `line-absent`). Assumes nothing.
+-- The names of slots written as fields one after the other (`Filling`, a loop's invariant), the sizes of these fields (`field-size`,
+-- `size-next`, `size-end`), and the field of the line number, where there is one (`line-there`, `line-absent`). Assumes nothing.
 use mathlib.Core.Path.{_≡_, refl, sym, ap, _∙_}
-use mathlib.Core.List.{List, [], _∷_, map, flatten}
+use mathlib.Core.List.{List, [], _∷_, _++_, map, flatten}
 use mathlib.Core.Bool.{Bool, cond}
-use Prim.Native.Nat.{ℕ, _+_, _*_, _/_, _<_, _≤_, min}
+use Prim.Native.Nat.{ℕ, _+_, _*_, _/_, _<_, _≤_}
 use native.Mathlib.Numerals.{add-one}
 use native.Mathlib.Omega.{arith}
 use borrow.Author.Tests.{eq-eqb, ne-eqb}
-use lib.ListN.{length, drop, length-append, length-take, drop-of-length-le}
+use lib.ListN.{length, drop, getD, length-append, drop-of-length-le}
 use lib.Seq.{drop-cons}
 use Rattle.names.specs.Ordering.{Row}
-use Rattle.names.specs.Names.{limit}
 use Rattle.numbers.specs.Bytes.{Bytes, bytes32, put}
-use Rattle.slots.specs.Tuples.{tupleSize, tuplesAt}
-use Rattle.slots.specs.Slots.{slotSize, headSize, depthOf, nameOf}
+use Rattle.slots.specs.declared.Span.{Span}
+use Rattle.slots.specs.Tuples.{tupleSize, rowAt}
+use Rattle.slots.specs.Slots.{slotSize}
 use Rattle.numbers.proofs.Put.{put-put, put-length, put-none}
 use Rattle.pages.specs.Pages.{namesOf}
-use Rattle.pages.proofs.SlotBySlot.{lent, lent-name, length-names}
+use Rattle.slots.proofs.TuplesInBytes.{length-tuplesAt}
+use Rattle.pages.proofs.SlotBySlot.{length-names}
 use Rattle.numbers.proofs.Lists.{flat, flat-none}
 use Rattle.fields.specs.Fields.{fieldHead, fieldBytes}
 use Rattle.messages.specs.Messages.{insert, lineTag, nameField, lineFields}
 use Rattle.messages.proofs.WriteBack.{flat-one}
-use Rattle.messages.proofs.Longest.{names-cons}
+use Rattle.messages.proofs.Longest.{name-length}
 
 -- the names' fields, one after the other
 abbrev pub fieldsWith : List Row → Bytes
 fieldsWith l = flatten (map nameField l)
 
+-- the field of a name that stands in s
+pub field-size : (s : Bytes) (x : Span) → length (nameField (rowAt s x)) ≡ fieldHead + tupleSize * x .count
+field-size s x = name-length (rowAt s x) ∙ ap (λ (n : ℕ). fieldHead + tupleSize * n) (length-tuplesAt s (x .at) (x .count))
+
 -- ── along the slots ──
 
-module _ (s : Bytes) (k : ℕ) (h : k < length s / slotSize) where
-  slot-next : drop k (namesOf s) ≡ nameOf (lent s (slotSize * k)) ∷ drop (k + 1) (namesOf s)
-  slot-next =
+-- a turn at slot k, whose name is a
+module _ (s : Bytes) (k : ℕ) (h : k < length s / slotSize) (a : Row) (e : a ≡ getD (namesOf s) k []) where
+  fields-next : fieldsWith (drop k (namesOf s)) ≡ nameField a ++ fieldsWith (drop (k + 1) (namesOf s))
+  fields-next =
       let l : k < length (namesOf s) = rw (length-names s (length s / slotSize)) h in
-      drop-cons (namesOf s) k [] l
-      ∙ (λ i. sym (lent-name s (length s / slotSize) k (slotSize * k) refl h) i ∷ drop (sym (add-one k) i) (namesOf s))
+      ap fieldsWith (drop-cons (namesOf s) k [] l ∙ (λ i. sym e i ∷ drop (sym (add-one k) i) (namesOf s)))
+      ∙ flat (nameField a) (map nameField (drop (k + 1) (namesOf s)))
 
-  pub size-next : (d : ℕ) → d ≡ min (depthOf (lent s (slotSize * k))) limit
-      → length (fieldsWith (drop k (namesOf s))) ≡ fieldHead + tupleSize * d + length (fieldsWith (drop (k + 1) (namesOf s)))
-  size-next d e =
-      let x = lent s (slotSize * k) in
-      let n : length (nameOf x) ≡ d = let t = length-take (depthOf x) (tuplesAt x headSize limit) in omega arith in
-      let rest = drop (k + 1) (namesOf s) in
-      ap (λ (l : List Row). length (fieldsWith l)) slot-next
-      ∙ names-cons (nameOf x) rest
-      ∙ ap (λ (n : ℕ). fieldHead + tupleSize * n + length (fieldsWith rest)) n
+  pub size-next : length (fieldsWith (drop k (namesOf s))) ≡ length (nameField a) + length (fieldsWith (drop (k + 1) (namesOf s)))
+  size-next = ap length fields-next ∙ length-append (nameField a) (fieldsWith (drop (k + 1) (namesOf s)))
 
 pub size-end : (s : Bytes) (k : ℕ) → length s / slotSize ≤ k → fieldsWith (drop k (namesOf s)) ≡ []
 size-end s k h =
@@ -67,34 +66,25 @@ module _ {s : Bytes} {q : ℕ} {o₀ o : Bytes} {p k : ℕ} (v : Filling s q o�
       let e = size-end s k h in
       (let z = ap length e in let c = v .count in omega arith, put-none o p ∙ ap (put o p) (sym e) ∙ v .stand)
 
-  module _ (h : k < length s / slotSize) (a : Row) (e : a ≡ nameOf (lent s (slotSize * k))) where
-    next : fieldsWith (drop k (namesOf s)) ≡ flatten (nameField a ∷ map nameField (drop (k + 1) (namesOf s)))
-    next = ap fieldsWith (slot-next s k h) ∙ ap (λ (b : Row). fieldsWith (b ∷ drop (k + 1) (namesOf s))) (sym e)
+  module _ (h : k < length s / slotSize) (a : Row) (e : a ≡ getD (namesOf s) k []) (r : q + length (fieldsWith (namesOf s)) ≤ length o₀) where
+    pub filling-fits : p + length (nameField a) ≤ length o
+    filling-fits = let c = v .count in let m = v .room in let l = size-next s k h a e in omega arith
 
-    longer : length (fieldsWith (drop k (namesOf s))) ≡ length (nameField a) + length (fieldsWith (drop (k + 1) (namesOf s)))
-    longer =
-        ap length (next ∙ flat (nameField a) (map nameField (drop (k + 1) (namesOf s))))
-        ∙ length-append (nameField a) (fieldsWith (drop (k + 1) (namesOf s)))
-
-    module _ (r : q + length (fieldsWith (namesOf s)) ≤ length o₀) where
-      pub filling-fits : p + length (nameField a) ≤ length o
-      filling-fits = let c = v .count in let m = v .room in let l = longer in omega arith
-
-      pub filling-on : (o' : Bytes) (p' : ℕ) → o' ≡ put o p (nameField a) → p' ≡ p + length (nameField a)
-          → Filling s q o₀ o' p' (k + 1)
-      filling-on o' p' f g =
-          let w = fieldsWith (drop (k + 1) (namesOf s)) in
-          let l = filling-fits in
-          record {
-            few = omega arith;
-            count = let c = v .count in let m = longer in omega arith;
-            room = ap length f ∙ put-length o p (omega arith) (nameField a) l ∙ v .room;
-            stand =
-                (λ i. put (f i) (g i) w)
-                ∙ put-put o p (omega arith) (nameField a) w
-                ∙ ap (put o p) (sym (next ∙ flat (nameField a) (map nameField (drop (k + 1) (namesOf s)))))
-                ∙ v .stand;
-          }
+    pub filling-on : (o' : Bytes) (p' : ℕ) → o' ≡ put o p (nameField a) → p' ≡ p + length (nameField a)
+        → Filling s q o₀ o' p' (k + 1)
+    filling-on o' p' f g =
+        let w = fieldsWith (drop (k + 1) (namesOf s)) in
+        let l = filling-fits in
+        record {
+          few = omega arith;
+          count = let c = v .count in let m = size-next s k h a e in omega arith;
+          room = ap length f ∙ put-length o p (omega arith) (nameField a) l ∙ v .room;
+          stand =
+              (λ i. put (f i) (g i) w)
+              ∙ put-put o p (omega arith) (nameField a) w
+              ∙ ap (put o p) (sym (fields-next s k h a e))
+              ∙ v .stand;
+        }
 
 -- ── the line number ──
 

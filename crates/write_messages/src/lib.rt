@@ -5,8 +5,8 @@ ghost use mathlib.Core.Bool.{true, cond};
 ghost use Prim.Native.Nat.{_+_, _*_, _≤_};
 ghost use lib.Dec.{eqb};
 ghost use lib.ListN.{length};
-ghost use Rattle.names.specs.Names.{limit, rowOf};
-ghost use Rattle.slots.specs.Tuples.{tupleSize};
+ghost use Rattle.names.specs.Names.{limit};
+ghost use Rattle.slots.specs.Tuples.{rowAt, Lies, tupleSize};
 ghost use Rattle.numbers.specs.Bytes.{put};
 ghost use Rattle.answers.specs.Answers.{leaves};
 ghost use Rattle.pages.specs.Pages.{maxSlots, namesOf, keepsLayout};
@@ -31,8 +31,8 @@ use messages::Numbers;
 use messages::PAIR;
 use messages::SEQUENCE;
 use names::Author;
-use names::Name;
 use slots::SLOT;
+use slots::Span;
 use slots::TUPLE;
 
 // ── the fields ──
@@ -65,15 +65,15 @@ fn write_numbers(out: &mut [u8], x: Numbers)
     write_pair(out, AUTHOR, AUTHOR_TAG, x.author);
 }
 
-// A name's field, and the place after it.
-fn write_name(out: &mut [u8], p: usize, a: Name) -> usize
-    requires { ⌜ p + length (nameField (rowOf a)) ≤ length (now out) ⌝ }
-    ensures { λ r. ⌜ r ≡ p + length (nameField (rowOf a)) ⌝ }
-    ensures { λ r. ⌜ now (out .exit) ≡ put (now (out .entry)) p (nameField (rowOf a)) ⌝ }
+// The field of a name that stands in s, and the place after it.
+fn write_name(out: &mut [u8], p: usize, s: &[u8], name: Span) -> usize
+    requires { ⌜ Lies (now s) name × (p + length (nameField (rowAt (now s) name)) ≤ length (now out)) ⌝ }
+    ensures { λ r. ⌜ r ≡ p + length (nameField (rowAt (now (s .entry)) name)) ⌝ }
+    ensures { λ r. ⌜ now (out .exit) ≡ put (now (out .entry)) p (nameField (rowAt (now (s .entry)) name)) ⌝ }
 {
-    let size = TUPLE * names::tuples_in(a);
+    let size = TUPLE * name.count;
     fields::write_field_head(out, p, NAME_TAG, size as u16);
-    slots::write_row(out, p + FIELD, a);
+    slots::copy_row(out, p + FIELD, s, name.at, name.count);
     p + FIELD + size
 }
 
@@ -87,9 +87,7 @@ fn write_names(names: &[u8], out: &mut [u8], p: usize) -> usize
     let mut k: usize = 0;
     let mut place = p;
     while k < n {
-        let at = SLOT * k;
-        let end = at + SLOT;
-        place = write_name(out, place, slots::read_name(&names[at..end]));
+        place = write_name(out, place, names, pages::span_of(names, k));
         k += 1;
     }
     place
@@ -146,9 +144,8 @@ fn names_size(names: &[u8]) -> usize
     let mut k: usize = 0;
     let mut size: usize = 0;
     while k < n {
-        let at = SLOT * k;
-        let end = at + SLOT;
-        size = size + FIELD + TUPLE * slots::depth(&names[at..end]);
+        let name = pages::span_of(names, k);
+        size = size + FIELD + TUPLE * name.count;
         k += 1;
     }
     size

@@ -1,29 +1,36 @@
 -- `pages::slots_ok` meets its contract. Assumes nothing.
 use mathlib.Core.Path.{_≡_, refl, _∙_, sym}
-use Prim.Native.Nat.{_-_, _/_, _≤_}
+use Prim.Native.Nat.{_-_, _≤_}
 use native.Mathlib.Omega.{arith}
 use denote.Ref.{now}
 use lib.ListN.{length, drop}
 use Rattle.numbers.specs.Lists.{every}
-use Rattle.slots.specs.Slots.{slotSize, keepsSlot}
-use Rattle.pages.specs.Pages.{parts}
-use Rattle.pages.proofs.SlotBySlot.{lent-length, part-at, part-end}
+use Rattle.slots.specs.Slots.{keepsOver}
+use Rattle.pages.specs.Pages.{partsOver}
+use Rattle.pages.proofs.SlotBySlot.{length-over, part-turn, part-last}
 use borrow.Author.Tests.{not-true, not-false}
 use borrow.Author.Needs.{needs}
 use Rattle.pages.proofs.slots_ok.Statement.{statement}
 use Rattle.pages.proofs.slots_ok.Tie as tie
 
 abbrev Inv-loop : tie.InvT-loop
-Inv-loop page n k₀ k = (n ≡ length page / slotSize) × (k ≤ n) × (every keepsSlot (drop k (parts n page)) ≡ every keepsSlot (parts n page))
+Inv-loop page room size at₀ at =
+    (at ≤ length page) × (every (keepsOver room) (partsOver room (drop at page)) ≡ every (keepsOver room) (partsOver room page))
 
 abbrev μ-loop : tie.MeasureT-loop
-μ-loop page n k₀ k = n - k
+μ-loop page room size at₀ at = length page - at
+
+mul-size : tie.Need-mul-size Inv-loop μ-loop
+mul-size c = omega arith
+
+add-size : tie.Need-add-size Inv-loop μ-loop
+add-size c = omega arith
 
 loop-holds : tie.Need-loop-holds Inv-loop μ-loop
-loop-holds c = (refl, omega arith, refl)
+loop-holds c = (omega arith, refl)
 
-mul-at : tie.Need-mul-at Inv-loop μ-loop
-mul-at c = omega arith
+sub-loop : tie.Need-sub-loop Inv-loop μ-loop
+sub-loop c = omega arith
 
 add-end : tie.Need-add-end Inv-loop μ-loop
 add-end c = omega arith
@@ -42,7 +49,7 @@ slot-ok-requires c κs =
     let in-loop : tie.In-loop Inv-loop μ-loop = search needs in
     let at-loop : tie.At-loop Inv-loop μ-loop = search needs in
     let start : tie.Start Inv-loop μ-loop = search needs in
-    lent-length (now (start .args .page)) _ (at-loop .loop .k) _ refl (in-loop .loop-test .taken) (at-loop .loop .inv .0)
+    (length-over (start .args .room) (now (start .args .page)) (at-loop .loop .at) (in-loop .loop-test .taken), start .pre)
 
 returns : tie.Need-returns Inv-loop μ-loop
 returns c =
@@ -51,10 +58,7 @@ returns c =
     let at-loop : tie.At-loop Inv-loop μ-loop = search needs in
     let start : tie.Start Inv-loop μ-loop = search needs in
     let broken = sym (not-true (after-slot-ok .slot-ok .result) (c .if1 .taken)) ∙ after-slot-ok .slot-ok .ensures in
-    part-at keepsSlot (now (start .args .page)) _ (at-loop .loop .k) (in-loop .loop-test .taken) broken ∙ at-loop .loop .inv .2
-
-add-k : tie.Need-add-k Inv-loop μ-loop
-add-k c = omega arith
+    part-turn (start .args .room) (now (start .args .page)) (at-loop .loop .at) (in-loop .loop-test .taken) (keepsOver (start .args .room)) broken ∙ at-loop .loop .inv .1
 
 loop-less : tie.Need-loop-less Inv-loop μ-loop
 loop-less c = omega arith
@@ -67,13 +71,13 @@ loop-again c =
     let at-loop : tie.At-loop Inv-loop μ-loop = search needs in
     let start : tie.Start Inv-loop μ-loop = search needs in
     let keeps = sym (not-false (after-slot-ok .slot-ok .result) (else1 .if1 .left)) ∙ after-slot-ok .slot-ok .ensures in
-    (at-loop .loop .inv .0, omega arith, part-at keepsSlot (now (start .args .page)) _ (at-loop .loop .k) (in-loop .loop-test .taken) keeps ∙ at-loop .loop .inv .2)
+    (omega arith, part-turn (start .args .room) (now (start .args .page)) (at-loop .loop .at) (in-loop .loop-test .taken) (keepsOver (start .args .room)) keeps ∙ at-loop .loop .inv .1)
 
 returns-2 : tie.Need-returns-2 Inv-loop μ-loop
 returns-2 c =
     let at-loop : tie.At-loop Inv-loop μ-loop = search needs in
     let start : tie.Start Inv-loop μ-loop = search needs in
-    part-end keepsSlot (now (start .args .page)) _ (at-loop .loop .k) (c .loop-test .left) ∙ at-loop .loop .inv .2
+    part-last (start .args .room) (now (start .args .page)) (at-loop .loop .at) (c .loop-test .left) (keepsOver (start .args .room)) ∙ at-loop .loop .inv .1
 
 pub slots-ok-spec : {M : Type 1} → statement M
 slots-ok-spec =
@@ -81,15 +85,16 @@ slots-ok-spec =
     (tie.spec
     Inv-loop
     μ-loop
+    mul-size
+    add-size
     loop-holds
-    mul-at
+    sub-loop
     add-end
     sub-slot-ok
     part-slot-ok-start
     part-slot-ok-end
     slot-ok-requires
     returns
-    add-k
     loop-less
     loop-again
     returns-2)

@@ -8,7 +8,7 @@ use Rattle.numbers.specs.Bytes.{put}
 use Rattle.slots.specs.Slots.{slotSize, slotBytes}
 use Rattle.messages.specs.Calls.{bare}
 use Rattle.read_messages.proofs.AtCursor.{name-long}
-use Rattle.read_messages.proofs.SecondPassSlots.{Placing, placing-first, placing-stands, placing-fits, placing-on, placing-end}
+use Rattle.read_messages.proofs.SecondPassSlots.{Placing, placing-first, placing-stands, placing-lies, placing-on, placing-end}
 use borrow.Author.Needs.{needs}
 use Rattle.read_messages.proofs.write_slots.Statement.{statement}
 use Rattle.read_messages.proofs.write_slots.Tie as tie
@@ -24,19 +24,24 @@ loop-holds c =
     let start : tie.Start Inv-loop μ-loop = search needs in
     placing-first (now (start .args .message)) (start .args .cursor .at) (start .args .n) (now (start .args .out)) (start .pre .0) (start .pre .1)
 
-mul-write-slot : tie.Need-mul-write-slot Inv-loop μ-loop
-mul-write-slot c = omega arith
+mul-copy-slot : tie.Need-mul-copy-slot Inv-loop μ-loop
+mul-copy-slot c = omega arith
 
-name-in-requires : tie.Need-name-in-requires Inv-loop μ-loop
-name-in-requires c κs =
+span-in-requires : tie.Need-span-in-requires Inv-loop μ-loop
+span-in-requires c κs =
+    let at-loop : tie.At-loop Inv-loop μ-loop = search needs in
     let start : tie.Start Inv-loop μ-loop = search needs in
-    let at-loop : tie.At-loop Inv-loop μ-loop = search needs in
-    let h : at-loop .loop .i < start .args .n = omega arith in (placing-stands (at-loop .loop .inv) h, placing-fits (at-loop .loop .inv) h)
+    let h : at-loop .loop .i < start .args .n = omega arith in placing-stands (at-loop .loop .inv) h
 
-write-slot-requires : tie.Need-write-slot-requires Inv-loop μ-loop
-write-slot-requires c κs =
+copy-slot-requires : tie.Need-copy-slot-requires Inv-loop μ-loop
+copy-slot-requires c κs =
+    let after-span-in : tie.After-span-in Inv-loop μ-loop = search needs in
     let at-loop : tie.At-loop Inv-loop μ-loop = search needs in
-    let r = at-loop .loop .inv .room in omega arith
+    let start : tie.Start Inv-loop μ-loop = search needs in
+    let v = at-loop .loop .inv in
+    let h : at-loop .loop .i < start .args .n = omega arith in
+    let name = after-span-in .span-in in
+    (let r = v .room in omega arith, placing-lies v h (name .result) (name .ensures .0) (name .ensures .1))
 
 after-field-requires : tie.Need-after-field-requires Inv-loop μ-loop
 after-field-requires c κs =
@@ -52,10 +57,10 @@ loop-less c = omega arith
 
 loop-again : tie.Need-loop-again Inv-loop μ-loop
 loop-again c =
-    let start : tie.Start Inv-loop μ-loop = search needs in
+    let after-copy-slot : tie.After-copy-slot Inv-loop μ-loop = search needs in
+    let after-span-in : tie.After-span-in Inv-loop μ-loop = search needs in
     let at-loop : tie.At-loop Inv-loop μ-loop = search needs in
-    let after-name-in : tie.After-name-in Inv-loop μ-loop = search needs in
-    let after-write-slot : tie.After-write-slot Inv-loop μ-loop = search needs in
+    let start : tie.Start Inv-loop μ-loop = search needs in
     let i = at-loop .loop .i in
     let h : i < start .args .n = omega arith in
     let s = now (start .args .message) in
@@ -63,9 +68,9 @@ loop-again c =
     let n = start .args .n in
     let o₀ = now (start .args .out) in
     let o = at-loop .loop .out in
-    let o' = after-write-slot .write-slot .last .0 in
-    let named = ap (λ (a : Row). put o (slotSize * i) (slotBytes (bare a))) (after-name-in .name-in .ensures) in
-    let v = placing-on (at-loop .loop .inv) h o' (start .pre .2) (after-write-slot .write-slot .ensures ∙ named) in
+    let o' = after-copy-slot .copy-slot .last .0 in
+    let named = ap (λ (a : Row). put o (slotSize * i) (slotBytes (bare a))) (after-span-in .span-in .ensures .1) in
+    let v = placing-on (at-loop .loop .inv) h o' (start .pre .2) (after-copy-slot .copy-slot .ensures ∙ named) in
     subst (λ (p : ℕ). Placing s from n o₀ o' p (i + 1)) (sym (c .after-field .ensures)) v
 
 same-length : tie.Need-same-length Inv-loop μ-loop
@@ -85,9 +90,9 @@ write-slots-spec =
     Inv-loop
     μ-loop
     loop-holds
-    mul-write-slot
-    name-in-requires
-    write-slot-requires
+    mul-copy-slot
+    span-in-requires
+    copy-slot-requires
     after-field-requires
     add-i
     loop-less

@@ -5,7 +5,6 @@ use Prim.Native.Nat.{ℕ, _+_, _*_, _≤_}
 use native.Mathlib.Omega.{arith}
 use denote.Ref.{now}
 use lib.ListN.{drop}
-use Rattle.names.specs.Names.{limit}
 use Rattle.numbers.specs.Bytes.{allZero, isZero}
 use Rattle.slots.specs.Tuples.{tupleSize}
 use Rattle.slots.specs.Slots.{headSize}
@@ -16,15 +15,15 @@ use borrow.Author.Needs.{needs}
 use Rattle.slots.proofs.zero_after.Tie as tie
 
 abbrev Inv-loop : tie.InvT-loop
-Inv-loop s d k₀ k = (d ≤ k) × (k ≤ limit) × (allZero (drop (headSize + tupleSize * k) s) ≡ true)
+Inv-loop s d room k₀ k = (d ≤ k) × (k ≤ room) × (allZero (drop (headSize + tupleSize * k) s) ≡ true)
 
 abbrev μ-loop : tie.MeasureT-loop
-μ-loop s d k₀ k = k
+μ-loop s d room k₀ k = k
 
 loop-holds : tie.Need-loop-holds Inv-loop μ-loop
 loop-holds c =
     let start : tie.Start Inv-loop μ-loop = search needs in
-    (omega arith, omega arith, sym (every-end isZero (now (start .args .s)) (headSize + tupleSize * limit) (omega arith)))
+    (omega arith, omega arith, sym (every-end isZero (now (start .args .s)) (headSize + tupleSize * start .args .room) (omega arith)))
 
 sub-k : tie.Need-sub-k Inv-loop μ-loop
 sub-k c = omega arith

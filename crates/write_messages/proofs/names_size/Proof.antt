@@ -5,13 +5,12 @@ use native.Mathlib.Omega.{arith}
 use denote.Ref.{now}
 use lib.ListN.{length, drop}
 use Rattle.names.specs.Names.{limit}
-use Rattle.slots.specs.Tuples.{tupleSize}
+use Rattle.slots.specs.Tuples.{tupleSize, rowAt}
 use Rattle.slots.specs.Slots.{slotSize}
 use Rattle.pages.specs.Pages.{maxSlots, namesOf}
-use Rattle.pages.proofs.SlotBySlot.{lent-length}
 use Rattle.pages.proofs.RoundTrip.{laid}
 use Rattle.fields.specs.Fields.{fieldHead}
-use Rattle.write_messages.proofs.NamesIntoFields.{fieldsWith, size-next, size-end}
+use Rattle.write_messages.proofs.NamesIntoFields.{fieldsWith, field-size, size-next, size-end}
 use borrow.Author.Needs.{needs}
 use Rattle.write_messages.proofs.names_size.Statement.{statement}
 use Rattle.write_messages.proofs.names_size.Tie as tie
@@ -29,32 +28,11 @@ loop-holds c =
     let start : tie.Start Inv-loop μ-loop = search needs in
     (refl, laid (now (start .args .names)) (start .pre) .few, omega arith, omega arith, omega arith)
 
-mul-at : tie.Need-mul-at Inv-loop μ-loop
-mul-at c = omega arith
-
-add-end : tie.Need-add-end Inv-loop μ-loop
-add-end c = omega arith
+span-of-requires : tie.Need-span-of-requires Inv-loop μ-loop
+span-of-requires c κs = search needs
 
 add-size : tie.Need-add-size Inv-loop μ-loop
 add-size c = omega arith
-
-sub-depth : tie.Need-sub-depth Inv-loop μ-loop
-sub-depth c = omega arith
-
-part-depth-start : tie.Need-part-depth-start Inv-loop μ-loop
-part-depth-start c = omega arith
-
-part-depth-end : tie.Need-part-depth-end Inv-loop μ-loop
-part-depth-end c = omega arith
-
-depth-requires : tie.Need-depth-requires Inv-loop μ-loop
-depth-requires c κs =
-    let start : tie.Start Inv-loop μ-loop = search needs in
-    let at-loop : tie.At-loop Inv-loop μ-loop = search needs in
-    let s = now (start .args .names) in
-    let k = at-loop .loop .k in
-    let l = lent-length s (length s / slotSize) k (slotSize * k) refl (omega arith) refl in
-    omega arith
 
 mul-size : tie.Need-mul-size Inv-loop μ-loop
 mul-size c = omega arith
@@ -70,18 +48,22 @@ loop-less c = omega arith
 
 loop-again : tie.Need-loop-again Inv-loop μ-loop
 loop-again c =
-    let start : tie.Start Inv-loop μ-loop = search needs in
+    let after-span-of : tie.After-span-of Inv-loop μ-loop = search needs in
     let at-loop : tie.At-loop Inv-loop μ-loop = search needs in
+    let start : tie.Start Inv-loop μ-loop = search needs in
     let v = at-loop .loop .inv in
     let k = at-loop .loop .k in
-    let h : k < length (now (start .args .names)) / slotSize = omega arith in
-    let e = size-next (now (start .args .names)) k h (c .depth .result) (c .depth .ensures) in
+    let s = now (start .args .names) in
+    let name = after-span-of .span-of in
+    let h : k < length s / slotSize = omega arith in
+    let e = size-next s k h (rowAt s (name .result)) (name .ensures .1) in
+    let l = field-size s (name .result) in
     (v .0, v .1, omega arith, omega arith, omega arith)
 
 returns : tie.Need-returns Inv-loop μ-loop
 returns c =
-    let start : tie.Start Inv-loop μ-loop = search needs in
     let at-loop : tie.At-loop Inv-loop μ-loop = search needs in
+    let start : tie.Start Inv-loop μ-loop = search needs in
     let v = at-loop .loop .inv in
     let k = at-loop .loop .k in
     let h : length (now (start .args .names)) / slotSize ≤ k = omega arith in
@@ -95,13 +77,8 @@ names-size-spec =
     Inv-loop
     μ-loop
     loop-holds
-    mul-at
-    add-end
+    span-of-requires
     add-size
-    sub-depth
-    part-depth-start
-    part-depth-end
-    depth-requires
     mul-size
     add-size-2
     add-k

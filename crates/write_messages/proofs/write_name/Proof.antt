@@ -1,23 +1,20 @@
 -- `write_messages::write_name` meets its contract. Assumes nothing.
-use mathlib.Core.Path.{_≡_, refl, _∙_, ap}
+use mathlib.Core.Path.{_≡_, refl, sym, _∙_, ap}
 use mathlib.Core.List.{_∷_, _++_}
 use Prim.Native.Nat.{ℕ, _*_}
 use native.Mathlib.Omega.{arith}
 use denote.Ref.{now}
 use lib.ListN.{length}
-use Rattle.names.specs.Names.{rowOf}
 use Rattle.numbers.specs.Bytes.{bytes16, put}
-use Rattle.slots.specs.Tuples.{tupleSize, rowBytes}
+use Rattle.slots.specs.Tuples.{tupleSize, rowAt, rowBytes}
 use Rattle.numbers.proofs.Put.{put-more}
+use Rattle.slots.proofs.TuplesInBytes.{length-tuplesAt}
 use Rattle.slots.proofs.WrittenSlots.{row-length}
 use Rattle.messages.specs.Messages.{nameTag}
-use Rattle.messages.proofs.Longest.{name-length}
+use Rattle.write_messages.proofs.NamesIntoFields.{field-size}
 use borrow.Author.Needs.{needs}
 use Rattle.write_messages.proofs.write_name.Statement.{statement}
 use Rattle.write_messages.proofs.write_name.Tie as tie
-
-tuples-in-requires : tie.Need-tuples-in-requires
-tuples-in-requires c κs = search needs
 
 mul-size : tie.Need-mul-size
 mul-size c = search needs
@@ -28,16 +25,16 @@ cast-write-field-head c = search needs
 write-field-head-requires : tie.Need-write-field-head-requires
 write-field-head-requires c κs = search needs
 
-add-write-row : tie.Need-add-write-row
-add-write-row c = search needs
+add-copy-row : tie.Need-add-copy-row
+add-copy-row c = search needs
 
-write-row-requires : tie.Need-write-row-requires
-write-row-requires c κs =
-    let start : tie.Start = search needs in
+copy-row-requires : tie.Need-copy-row-requires
+copy-row-requires c κs =
     let after-write-field-head : tie.After-write-field-head = search needs in
-    let l = name-length (rowOf (start .args .a)) in
+    let start : tie.Start = search needs in
+    let l = field-size (now (start .args .s)) (start .args .name) in
     let k = after-write-field-head .write-field-head .kept .0 in
-    omega arith
+    (omega arith, start .pre .0 .0)
 
 add-result : tie.Need-add-result
 add-result c = search needs
@@ -50,31 +47,30 @@ same-length c = search needs
 
 returns : tie.Need-returns
 returns c =
-    let start : tie.Start = search needs in
-    let after-tuples-in : tie.After-tuples-in = search needs in
+    let after-copy-row : tie.After-copy-row = search needs in
     let after-write-field-head : tie.After-write-field-head = search needs in
-    let after-write-row : tie.After-write-row = search needs in
+    let start : tie.Start = search needs in
     let o = now (start .args .out) in
     let p = start .args .p in
-    let a = rowOf (start .args .a) in
-    let l = name-length a in
-    let size = tupleSize * after-tuples-in .tuples-in .result in
-    let e : size ≡ length (rowBytes a) = let r = row-length a in let t = after-tuples-in .tuples-in .ensures .0 in omega arith in
-    let t = after-tuples-in .tuples-in .ensures .0 in
+    let s = now (start .args .s) in
+    let x = start .args .name in
+    let a = rowAt s x in
+    let l = field-size s x in
+    let size = tupleSize * x .count in
+    let e : size ≡ length (rowBytes a) = sym (row-length a ∙ ap (λ (n : ℕ). tupleSize * n) (length-tuplesAt s (x .at) (x .count))) in
     let head = after-write-field-head .write-field-head .ensures in
-    let written = put-more o p (omega arith) (nameTag ∷ bytes16 size) (rowBytes a) head refl (after-write-row .write-row .ensures) in
+    let written = put-more o p (omega arith) (nameTag ∷ bytes16 size) (rowBytes a) head refl (after-copy-row .copy-row .ensures) in
     (omega arith, written ∙ ap (λ (n : ℕ). put o p ((nameTag ∷ bytes16 n) ++ rowBytes a)) e)
 
 pub write-name-spec : {M : Type 1} → statement M
 write-name-spec =
     tie.close
     (tie.spec
-    tuples-in-requires
     mul-size
     cast-write-field-head
     write-field-head-requires
-    add-write-row
-    write-row-requires
+    add-copy-row
+    copy-row-requires
     add-result
     add-result-2
     same-length

@@ -1,12 +1,11 @@
 -- `write_messages::write_names` meets its contract. Assumes nothing.
 use mathlib.Core.Path.{_≡_, refl}
-use Prim.Native.Nat.{_*_, _-_, _/_, _<_}
+use Prim.Native.Nat.{_-_, _/_, _<_}
 use native.Mathlib.Omega.{arith}
 use denote.Ref.{now}
 use lib.ListN.{length}
-use Rattle.names.specs.Names.{rowOf}
+use Rattle.slots.specs.Tuples.{rowAt}
 use Rattle.slots.specs.Slots.{slotSize}
-use Rattle.pages.proofs.SlotBySlot.{lent-length}
 use Rattle.write_messages.proofs.NamesIntoFields.{Filling, filling-first, filling-fits, filling-on, filling-end}
 use borrow.Author.Needs.{needs}
 use Rattle.write_messages.proofs.write_names.Statement.{statement}
@@ -23,35 +22,18 @@ loop-holds c =
     let start : tie.Start Inv-loop μ-loop = search needs in
     (refl, filling-first (now (start .args .names)) (start .args .p) (now (start .args .out)))
 
-mul-at : tie.Need-mul-at Inv-loop μ-loop
-mul-at c = omega arith
-
-add-end : tie.Need-add-end Inv-loop μ-loop
-add-end c = omega arith
-
-sub-read-name : tie.Need-sub-read-name Inv-loop μ-loop
-sub-read-name c = omega arith
-
-part-read-name-start : tie.Need-part-read-name-start Inv-loop μ-loop
-part-read-name-start c = omega arith
-
-part-read-name-end : tie.Need-part-read-name-end Inv-loop μ-loop
-part-read-name-end c = omega arith
-
-read-name-requires : tie.Need-read-name-requires Inv-loop μ-loop
-read-name-requires c κs =
-    let start : tie.Start Inv-loop μ-loop = search needs in
-    let at-loop : tie.At-loop Inv-loop μ-loop = search needs in
-    let s = now (start .args .names) in
-    let k = at-loop .loop .k in
-    lent-length s (length s / slotSize) k (slotSize * k) refl (omega arith) refl
+span-of-requires : tie.Need-span-of-requires Inv-loop μ-loop
+span-of-requires c κs = search needs
 
 write-name-requires : tie.Need-write-name-requires Inv-loop μ-loop
 write-name-requires c κs =
-    let start : tie.Start Inv-loop μ-loop = search needs in
+    let after-span-of : tie.After-span-of Inv-loop μ-loop = search needs in
     let at-loop : tie.At-loop Inv-loop μ-loop = search needs in
-    let h : at-loop .loop .k < length (now (start .args .names)) / slotSize = omega arith in
-    filling-fits (at-loop .loop .inv .1) h (rowOf (c .read-name .result)) (c .read-name .ensures) (start .pre)
+    let start : tie.Start Inv-loop μ-loop = search needs in
+    let s = now (start .args .names) in
+    let h : at-loop .loop .k < length s / slotSize = omega arith in
+    let name = after-span-of .span-of in
+    (name .ensures .0, filling-fits (at-loop .loop .inv .1) h (rowAt s (name .result)) (name .ensures .1) (start .pre))
 
 add-k : tie.Need-add-k Inv-loop μ-loop
 add-k c = omega arith
@@ -61,14 +43,15 @@ loop-less c = omega arith
 
 loop-again : tie.Need-loop-again Inv-loop μ-loop
 loop-again c =
-    let start : tie.Start Inv-loop μ-loop = search needs in
-    let at-loop : tie.At-loop Inv-loop μ-loop = search needs in
-    let after-read-name : tie.After-read-name Inv-loop μ-loop = search needs in
     let after-write-name : tie.After-write-name Inv-loop μ-loop = search needs in
-    let h : at-loop .loop .k < length (now (start .args .names)) / slotSize = omega arith in
-    let read = after-read-name .read-name in
+    let after-span-of : tie.After-span-of Inv-loop μ-loop = search needs in
+    let at-loop : tie.At-loop Inv-loop μ-loop = search needs in
+    let start : tie.Start Inv-loop μ-loop = search needs in
+    let s = now (start .args .names) in
+    let h : at-loop .loop .k < length s / slotSize = omega arith in
+    let name = after-span-of .span-of in
     let w = after-write-name .write-name in
-    (refl, filling-on (at-loop .loop .inv .1) h (rowOf (read .result)) (read .ensures) (start .pre) (w .last .0) (w .result) (w .ensures .1) (w .ensures .0))
+    (refl, filling-on (at-loop .loop .inv .1) h (rowAt s (name .result)) (name .ensures .1) (start .pre) (w .last .0) (w .result) (w .ensures .1) (w .ensures .0))
 
 same-length : tie.Need-same-length Inv-loop μ-loop
 same-length c =
@@ -87,12 +70,7 @@ write-names-spec =
     Inv-loop
     μ-loop
     loop-holds
-    mul-at
-    add-end
-    sub-read-name
-    part-read-name-start
-    part-read-name-end
-    read-name-requires
+    span-of-requires
     write-name-requires
     add-k
     loop-less

@@ -1,8 +1,8 @@
--- `slots::depth` meets its contract. Assumes nothing.
+-- `slots::depth_over` meets its contract. Assumes nothing.
 use native.Mathlib.Omega.{arith}
 use borrow.Author.Needs.{needs}
-use Rattle.slots.proofs.depth.Statement.{statement}
-use Rattle.slots.proofs.depth.Tie as tie
+use Rattle.slots.proofs.depth_over.Statement.{statement}
+use Rattle.slots.proofs.depth_over.Tie as tie
 
 shared-slice-read-d : tie.Need-shared-slice-read-d
 shared-slice-read-d c = search needs
@@ -16,5 +16,5 @@ returns c = search needs
 returns-2 : tie.Need-returns-2
 returns-2 c = search needs
 
-pub depth-spec : {M : Type 1} → statement M
-depth-spec = tie.close (tie.spec shared-slice-read-d cast-d returns returns-2)
+pub depth-over-spec : {M : Type 1} → statement M
+depth-over-spec = tie.close (tie.spec shared-slice-read-d cast-d returns returns-2)
