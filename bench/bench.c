@@ -44,6 +44,8 @@ static const char *const operation_names[OPERATIONS] = {
     [TAKE_BACK] = "take back",
     [WRITE_MESSAGE] = "write message",
     [READ_MESSAGE] = "read message",
+    [FROM_OLD] = "from old",
+    [TO_OLD] = "to old",
     [CHECK_EPOCHS] = "check epochs",
     [NEXT_STEP] = "next step",
     [ADD_EPOCH] = "add epoch",
@@ -51,15 +53,20 @@ static const char *const operation_names[OPERATIONS] = {
 
 static const char *shape_name(Operation operation, Shape shape)
 {
+    static char text[64];
     if (operation >= CHECK_EPOCHS)
         return shape == CHAIN ? "chain" : "star";
     if (shape == SHALLOW)
         return "1 tuple";
-    return operation == RENAME_PAGE || operation == TAKE_BACK ? "5 to 7" : "5 to 8";
+    Depths depths = depths_of(operation, shape);
+    snprintf(text, sizeof text, "%zu to %zu", depths.shared + 1, depths.deepest);
+    return text;
 }
 
-static Input inputs[OPERATIONS][SHAPES][SIZES];
-static Timed timed[OPERATIONS][SHAPES][SIZES][SIDES];
+/* A row of a table is an operation on inputs of one shape; not every operation has all shapes. */
+static Input inputs[OPERATIONS * SHAPES][SIZES];
+static Timed timed[OPERATIONS * SHAPES][SIZES][SIDES];
+static size_t row_index[OPERATIONS][SHAPES], rows;
 
 static uint64_t copy_input(const Input *input, Output *output)
 {
@@ -87,26 +94,29 @@ static void hold_call(Operation operation, const Input *input)
 static void prepare(Operation operation, Shape shape, size_t i, size_t size)
 {
     const Call calls[SIDES] = {library_calls[operation], plain_calls[operation], copy_input};
-    Input *input = &inputs[operation][shape][i];
+    size_t row = row_index[operation][shape];
+    Input *input = &inputs[row][i];
     make_input(operation, shape, size, input);
     hold_call(operation, input);
     for (int side = 0; side < SIDES; side++) {
-        timed[operation][shape][i][side].call = calls[side];
-        timed[operation][shape][i][side].input = input;
+        timed[row][i][side].call = calls[side];
+        timed[row][i][side].input = input;
     }
 }
 
 static void prepare_family(const Family *family)
 {
     for (Operation operation = family->begin; operation < family->end; operation++)
-        for (Shape shape = SHALLOW; shape < SHAPES; shape++)
+        for (Shape shape = SHALLOW; shape < shapes_of(operation); shape++) {
+            row_index[operation][shape] = rows++;
             for (size_t i = 0; i < SIZES; i++)
                 prepare(operation, shape, i, family->sizes[i]);
+        }
 }
 
 static double nanoseconds(Operation operation, Shape shape, size_t i, int side)
 {
-    return timed[operation][shape][i][side].nanoseconds;
+    return timed[row_index[operation][shape]][i][side].nanoseconds;
 }
 
 static double ratio(Operation operation, Shape shape, size_t i, int side)
@@ -149,7 +159,7 @@ static void print_family(const Family *family)
 {
     print_heading(family);
     for (Operation operation = family->begin; operation < family->end; operation++)
-        for (Shape shape = SHALLOW; shape < SHAPES; shape++)
+        for (Shape shape = SHALLOW; shape < shapes_of(operation); shape++)
             print_row(family, operation, shape);
     printf("\n");
 }
@@ -157,7 +167,7 @@ static void print_family(const Family *family)
 static void tell_dearer(const Family *family)
 {
     for (Operation operation = family->begin; operation < family->end; operation++)
-        for (Shape shape = SHALLOW; shape < SHAPES; shape++)
+        for (Shape shape = SHALLOW; shape < shapes_of(operation); shape++)
             for (size_t i = 0; i < SIZES; i++)
                 if (ratio(operation, shape, i, PLAIN) > 1)
                     printf("more than plain C: %s, %s, %zu %s: %.2f\n", operation_names[operation],
@@ -170,7 +180,7 @@ static size_t tell_growth(const Family *family)
 {
     size_t times = 0;
     for (Operation operation = family->begin; operation < family->end; operation++)
-        for (Shape shape = SHALLOW; shape < SHAPES; shape++)
+        for (Shape shape = SHALLOW; shape < shapes_of(operation); shape++)
             for (size_t i = 0; i + 1 < SIZES; i++)
                 if (growth(family, operation, shape, i) > most_growth) {
                     printf("twice the %s cost more than %.1f times as much: %s, %s, %zu to %zu: %.2f\n",
@@ -191,7 +201,7 @@ int main(int argc, char **argv)
     size_t too_much = 0;
     for (size_t i = 0; i < FAMILIES; i++)
         prepare_family(&families[i]);
-    time_all(&timed[0][0][0][0], OPERATIONS * SHAPES * SIZES * SIDES);
+    time_all(&timed[0][0][0], rows * SIZES * SIDES);
     for (size_t i = 0; i < FAMILIES; i++)
         print_family(&families[i]);
     for (size_t i = 0; i < FAMILIES; i++)

@@ -63,6 +63,16 @@ static uint64_t call_read_message(const Input *in, Output *out)
                                    &numbers->line, out->bytes, sizeof out->bytes);
 }
 
+static uint64_t call_from_old(const Input *in, Output *out)
+{
+    return kadalumbir_from_old(in->first.bytes, in->first.length, out->bytes, sizeof out->bytes);
+}
+
+static uint64_t call_to_old(const Input *in, Output *out)
+{
+    return kadalumbir_to_old(in->first.bytes, in->first.length, out->bytes, sizeof out->bytes);
+}
+
 static uint64_t call_check_epochs(const Input *in, Output *out)
 {
     (void)out;
@@ -90,6 +100,8 @@ const Call CALLS[OPERATIONS] = {
     [TAKE_BACK] = call_take_back,
     [WRITE_MESSAGE] = call_write_message,
     [READ_MESSAGE] = call_read_message,
+    [FROM_OLD] = call_from_old,
+    [TO_OLD] = call_to_old,
     [CHECK_EPOCHS] = call_check_epochs,
     [NEXT_STEP] = call_next_step,
     [ADD_EPOCH] = call_add_epoch,

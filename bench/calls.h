@@ -14,6 +14,8 @@ typedef enum {
     TAKE_BACK,
     WRITE_MESSAGE,
     READ_MESSAGE,
+    FROM_OLD,
+    TO_OLD,
     CHECK_EPOCHS,
     NEXT_STEP,
     ADD_EPOCH,

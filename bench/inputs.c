@@ -6,22 +6,38 @@
 #include "../tests/reference/epochs.h"
 
 enum {
-    SHARED = 4,      /* the tuples that begin every deep name */
     OTHER_NODE = 2,  /* of every name */
     FIRST_NODE = 100 /* of the epochs */
 };
 
-/* A name with this place among all names, up to so deep. */
-static Slot slot_at(size_t place, uint32_t line, Shape shape, size_t deepest)
+size_t shapes_of(Operation operation)
 {
-    Slot slot = {line, {1, {{0, 0, 0, 0}}}};
-    size_t placed = 0;
-    if (shape == DEEP) {
-        slot.name.depth = deepest - place / 2 % (deepest - SHARED);
-        placed = SHARED;
-    }
+    if (operation >= CHECK_EPOCHS)
+        return CHAIN + 1;
+    /* An old page has names of at most eight tuples. */
+    return operation == FROM_OLD || operation == TO_OLD ? DEEP + 1 : SHAPES;
+}
+
+Depths depths_of(Operation operation, Shape shape)
+{
+    static const Depths depths[SHAPES] = {
+        [SHALLOW] = {0, 1},
+        [DEEP] = {4, 8},
+        [DEEPEST] = {DEPTH_LIMIT - 4, DEPTH_LIMIT},
+    };
+    Depths given = depths[shape];
+    /* A rename may add a tuple. */
+    if (shape != SHALLOW && (operation == RENAME_PAGE || operation == TAKE_BACK))
+        given.deepest--;
+    return given;
+}
+
+/* A name with this place among all names of such depths. */
+static Slot slot_at(size_t place, uint32_t line, Depths depths)
+{
+    Slot slot = {line, {depths.deepest - place / 2 % (depths.deepest - depths.shared), {{0, 0, 0, 0}}}};
     for (size_t i = 0; i < slot.name.depth; i++) {
-        Tuple t = {(uint16_t)(i == placed ? 1 + 100 * place : 1000 + i), OTHER_NODE, (uint32_t)i, 0};
+        Tuple t = {(uint16_t)(i == depths.shared ? 1 + 100 * place : 1000 + i), OTHER_NODE, (uint32_t)i, 0};
         slot.name.tuples[i] = t;
     }
     return slot;
@@ -34,21 +50,21 @@ static void add_slot(Part *part, const Slot *slot)
 }
 
 /* Names at every other place, with line numbers. */
-static void make_page(size_t lines, Shape shape, size_t deepest, Part *page)
+static void make_page(size_t lines, Depths depths, Part *page)
 {
     page->length = 0;
     for (size_t i = 0; i < lines; i++) {
-        Slot slot = slot_at(2 * i, (uint32_t)i + 1, shape, deepest);
+        Slot slot = slot_at(2 * i, (uint32_t)i + 1, depths);
         add_slot(page, &slot);
     }
 }
 
 /* Of each two lines of such a page, the first one's name, and one above the second's. */
-static void make_log(size_t lines, Shape shape, size_t deepest, Part *log)
+static void make_log(size_t lines, Depths depths, Part *log)
 {
     log->length = 0;
     for (size_t i = 0; i < lines; i++) {
-        Slot slot = slot_at(i % 2 == 0 ? 2 * i : 2 * i + 1, 0, shape, deepest);
+        Slot slot = slot_at(i % 2 == 0 ? 2 * i : 2 * i + 1, 0, depths);
         add_slot(log, &slot);
     }
 }
@@ -86,41 +102,46 @@ static void make_table(size_t entries, Shape shape, Part *table)
 
 void make_input(Operation operation, Shape shape, size_t size, Input *input)
 {
-    /* A rename may add a tuple. */
-    bool renames = operation == RENAME_PAGE || operation == TAKE_BACK;
-    size_t deepest = renames ? DEPTH_LIMIT - 1 : DEPTH_LIMIT, middle = size / 2;
+    Depths depths = depths_of(operation, shape);
+    size_t middle = size / 2;
     Part *first = &input->first, *second = &input->second;
 
     second->length = 0;
     input->index = 0;
     switch (operation) {
     case CHECK_PAGE:
-        make_page(size, shape, deepest, first);
+        make_page(size, depths, first);
         break;
     case NEW_NAME:
-        make_page(size, shape, deepest, first);
+        make_page(size, depths, first);
         input->index = middle;
         break;
     case INSERT_SLOT:
     case REMOVE_SLOT:
-        make_page(size, shape, deepest, first);
+        make_page(size, depths, first);
         copy_slot(first, middle, second);
         if (operation == INSERT_SLOT)
             cut_slot(first, middle);
         break;
     case RENAME_PAGE:
     case TAKE_BACK:
-        make_page(size, shape, deepest, first);
-        make_log(size, shape, deepest, second);
+        make_page(size, depths, first);
+        make_log(size, depths, second);
         if (operation == TAKE_BACK)
             become_result(RENAME_PAGE, SLOT_BYTES, input);
         break;
     case CHECK_LOG:
     case WRITE_MESSAGE:
     case READ_MESSAGE:
-        make_log(size, shape, deepest, first);
+        make_log(size, depths, first);
         if (operation == READ_MESSAGE)
             become_result(WRITE_MESSAGE, 1, input);
+        break;
+    case FROM_OLD:
+    case TO_OLD:
+        make_page(size, depths, first);
+        if (operation == FROM_OLD)
+            become_result(TO_OLD, KADALUMBIR_OLD_SLOT_BYTES, input);
         break;
     case CHECK_EPOCHS:
         make_table(size, shape, first);

@@ -4,9 +4,19 @@
 
 #include "calls.h"
 
-/* Books, logs and messages have names of one tuple, or of 5 to 8 of which the first four are the same, so that
- * comparing two goes that far; where a rename is to add one, of 5 to 7. Tables are a star, or a chain. */
-typedef enum { SHALLOW, DEEP, SHAPES, STAR = SHALLOW, CHAIN = DEEP } Shape;
+/* Books, logs and messages have names of one tuple, of 5 to 8 or up to the limit; tables are a star, or a chain. */
+typedef enum { SHALLOW, DEEP, DEEPEST, SHAPES, STAR = SHALLOW, CHAIN = DEEP } Shape;
+
+/* The first so many are those that an operation is timed on. */
+size_t shapes_of(Operation operation);
+
+/* The tuples that all names of an input begin with, so that comparing two goes that far, and the most that one has. Every
+ * name has more than the shared ones. */
+typedef struct {
+    size_t shared, deepest;
+} Depths;
+
+Depths depths_of(Operation operation, Shape shape);
 
 /* So many lines or names: a log has as many as the page that is renamed, of whose names half are logged and half stand
  * between two logged ones. Insert and add epoch come to so many lines or entries. */

@@ -16,5 +16,7 @@
 #define kadalumbir_add_epoch plain_add_epoch
 #define kadalumbir_write_message plain_write_message
 #define kadalumbir_read_message plain_read_message
+#define kadalumbir_from_old plain_from_old
+#define kadalumbir_to_old plain_to_old
 
 #endif

@@ -1,7 +1,8 @@
 /*
  * Three loggers edit one line book at the same time, each its own copy of it. What they tell each other comes late, twice
  * and in different orders; when all of it has come, the three books are alike. Then one book alone: which gain applies to
- * each reading, before a rename, after it and after its taking back. All of it is done by the calls of kadalumbir.h.
+ * each reading, before a rename, after it and after its taking back; and the three's book, handed to a unit that still has
+ * old pages. All of it is done by the calls of kadalumbir.h.
  */
 #include <kadalumbir.h>
 #include <stdio.h>
@@ -145,6 +146,11 @@ static uint32_t line_of(const uint8_t *slot)
 static Pair last_pair(const uint8_t *slot)
 {
     return read_pair(slot + NAME_BYTE + (slot[0] - 1) * KADALUMBIR_TUPLE_BYTES + 2);
+}
+
+static int same_page(const Page *a, const Page *b)
+{
+    return a->len == b->len && memcmp(a->bytes, b->bytes, a->len) == 0;
 }
 
 /* Slots as they go into a message or a log, with line numbers 0. */
@@ -587,8 +593,7 @@ static void edit_apart(void)
 
 static int same_end(const Logger *a, const Logger *b)
 {
-    return a->book.len == b->book.len && memcmp(a->book.bytes, b->book.bytes, a->book.len) == 0 &&
-           same_pair(epoch_at(a, a->current), epoch_at(b, b->current));
+    return same_page(&a->book, &b->book) && same_pair(epoch_at(a, a->current), epoch_at(b, b->current));
 }
 
 static void print_words(void)
@@ -741,9 +746,63 @@ static void run_gains(void)
     puts("\nThe gain that applies to each reading is the same throughout, and lines 1 to 6 have their names again.");
 }
 
+/* ---- a unit that has old pages */
+
+static unsigned deepest_of(const Page *page)
+{
+    unsigned deepest = 0;
+    for (size_t i = 0; i < slots_of(page); i++)
+        if (slot_at(page, i)[0] > deepest)
+            deepest = slot_at(page, i)[0];
+    return deepest;
+}
+
+/* The book goes to the unit and comes back, unless a name is too deep for an old page. */
+static void hand_to_unit(const char *state, const Page *book)
+{
+    static uint8_t old[KADALUMBIR_OLD_PAGE_BYTES];
+    static Page back;
+    uint64_t result = kadalumbir_to_old(book->bytes, book->len, old, sizeof old);
+    printf("%-20s | %5u | %7u | ", state, (unsigned)slots_of(book), deepest_of(book));
+    if (kadalumbir_answer_of(result) == KADALUMBIR_TOO_DEEP) {
+        printf("refused with %d\n", KADALUMBIR_TOO_DEEP);
+        return;
+    }
+    size_t old_len = accepted(result, "to old") * KADALUMBIR_OLD_SLOT_BYTES;
+    result = kadalumbir_from_old(old, old_len, second.bytes, sizeof second.bytes);
+    take_second(&back, accepted(result, "from old"));
+    if (!same_page(&back, book))
+        failed("a book does not come back from an old page as it was");
+    printf("%u bytes, and back as it was\n", (unsigned)old_len);
+}
+
+/* Lines one after the other, in a gap between two that a rename named: each name is one tuple deeper than the last. */
+static void write_row(Logger *logger, size_t gap, unsigned lines)
+{
+    for (unsigned i = 0; i < lines; i++)
+        add_line(&logger->book, gap + i, logger->node * 100u + ++logger->lines);
+}
+
+static void run_old_pages(void)
+{
+    static Page log;
+    Logger *logger = &crew[0];
+    puts("\nA unit from the drawer joins. It still has old pages, whose names are of at most eight tuples: a book goes to it and\n"
+         "comes back exactly when its names fit. A rename of all lines makes them fit.\n");
+    printf("%-20s | lines | deepest | as an old page\n", "the book");
+    hand_to_unit("as all three have it", &logger->book);
+    write_row(logger, 1, KADALUMBIR_OLD_TUPLES);
+    hand_to_unit("with a row of lines", &logger->book);
+    copy_names(logger->book.bytes, slots_of(&logger->book), &log);
+    Pair author = {logger->node, ++logger->sequence};
+    rename_page(&logger->book, &log, author);
+    hand_to_unit("renamed", &logger->book);
+}
+
 int main(void)
 {
     run_crew();
     run_gains();
+    run_old_pages();
     return 0;
 }

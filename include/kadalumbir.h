@@ -2,7 +2,7 @@
  * Kadalumbir: line books for walking magnetometers. A book is a page of numbered lines that several units edit; each
  * line has a name, and the order of the names is the order of the lines. Every call checks all the bytes that it is
  * given, and then either does what is said here or refuses with a number and writes nothing. Both are proved, for every
- * input. The library keeps no state and allocates nothing, and needs memset from outside, no more.
+ * input. The library keeps no state and allocates nothing, and needs memset and memcpy from outside, no more.
  *
  * A line put into an empty book:
  *
@@ -24,16 +24,18 @@
  * than one refusal applies, the first in the order beside the function is given.
  *
  * Stack. The number beside each function is what the call and all that it calls put on the stack, in bytes: read off the
- * frames of the archive for x86-64 and rounded up, without the call's arguments and memset's own.
+ * frames of the archive for x86-64 and rounded up, without the call's arguments and what memset and memcpy take.
  *
  * Bytes. All numbers are big-endian.
  *   tuple   12 bytes: position u16, node u16, sequence u32, offset i32 in two's complement. An ordinary tuple has
  *           position 1..65534, node at least 1, offset -1..2147483646. Markers are (0, 0, 0, 0) and
  *           (65535, 65535, 4294967295, 2147483647).
- *   name    1 to 8 tuples. The first and the last are ordinary, the last has offset at least 0; markers may stand between.
+ *   name    1 to 16 tuples. The first and the last are ordinary, the last has offset at least 0; markers may stand between.
  *           Names compare at the first tuple that differs, by position, node, sequence, offset; a prefix is smaller.
- *   slot    104 bytes: depth 1..8, three zero bytes, line number u32, the name's tuples, zeros.
+ *   slot    200 bytes: depth 1..16, three zero bytes, line number u32, the name's tuples, zeros.
  *   page    0 to 256 slots with strictly rising names.
+ *   old     an old page: the same with slots of 104 bytes, depth 1..8, as pages were while a name had at most 8 tuples. No
+ *           bytes but the empty page are both: to the wrong call they are a broken layout.
  *   log     a page of 1 to 256 slots whose line numbers are all 0: the names that a rename makes short.
  *   table   1 to 32 entries of 8 bytes: node u16, sequence u32, parent's index u16. Entry 0 is all zero. Every other
  *           entry has node at least 1, a parent with a smaller index, and a (node, sequence) that no other entry has.
@@ -52,24 +54,27 @@ extern "C" {
 #endif
 
 #define KADALUMBIR_TUPLE_BYTES 12
-#define KADALUMBIR_TUPLES 8   /* the most of a name */
-#define KADALUMBIR_SLOT_BYTES 104
+#define KADALUMBIR_TUPLES 16  /* the most of a name */
+#define KADALUMBIR_SLOT_BYTES 200
 #define KADALUMBIR_SLOTS 256  /* the most of a page or a log */
 #define KADALUMBIR_PAGE_BYTES (KADALUMBIR_SLOTS * KADALUMBIR_SLOT_BYTES)
+#define KADALUMBIR_OLD_TUPLES 8 /* the most of a name in an old page */
+#define KADALUMBIR_OLD_SLOT_BYTES 104
+#define KADALUMBIR_OLD_PAGE_BYTES (KADALUMBIR_SLOTS * KADALUMBIR_OLD_SLOT_BYTES)
 #define KADALUMBIR_ENTRY_BYTES 8
 #define KADALUMBIR_ENTRIES 32 /* the most of an epoch table */
 #define KADALUMBIR_TABLE_BYTES (KADALUMBIR_ENTRIES * KADALUMBIR_ENTRY_BYTES)
-#define KADALUMBIR_MESSAGE_BYTES 25366 /* of the longest message */
+#define KADALUMBIR_MESSAGE_BYTES 49942 /* of the longest message */
 
 /* What comes back. */
 typedef enum kadalumbir_answer {
     KADALUMBIR_ACCEPTED = 0,
-    KADALUMBIR_BAD_LAYOUT = 1,       /* a page (its order apart) or given slot breaks its layout */
-    KADALUMBIR_NOT_RISING = 2,       /* page names not strictly rising */
+    KADALUMBIR_BAD_LAYOUT = 1,       /* a page or old page (its order apart) or given slot breaks its layout */
+    KADALUMBIR_NOT_RISING = 2,       /* names of a page or old page not strictly rising */
     KADALUMBIR_BAD_LOG = 3,          /* log breaks its layout, is empty, not rising, or has a line number other than 0 */
     KADALUMBIR_NO_AUTHOR = 4,        /* author node is 0 */
     KADALUMBIR_NOT_FRESH = 5,        /* rename not fresh: a name of page or log begins with the author's pair */
-    KADALUMBIR_TOO_DEEP = 6,         /* some result needs more than eight tuples */
+    KADALUMBIR_TOO_DEEP = 6,         /* some result needs more than sixteen tuples, or in an old page more than eight */
     KADALUMBIR_NOT_RISING_BACK = 7,  /* taken-back names not strictly rising */
     KADALUMBIR_SHORT = 8,            /* output shorter than the result */
     KADALUMBIR_PRESENT = 9,          /* insert: name present */
@@ -120,7 +125,7 @@ uint64_t kadalumbir_remove(const uint8_t *page, size_t page_len, const uint8_t *
 /* Writes one slot with line number 0 and a new name for the gap before slot `gap`, or after the last where `gap` is the
  * number of slots. The author's (node, sequence) is taken as given: that it was never used before, which keeps two
  * units' names apart, is the caller's affair. The count is 0, though a slot is written.
- * Refuses 1, 2, 4, 16, 12, 6, 8. Stack: 700 bytes. */
+ * Refuses 1, 2, 4, 16, 12, 6, 8. Stack: 1400 bytes. */
 uint64_t kadalumbir_new_name(const uint8_t *page, size_t page_len, size_t gap, uint16_t node, uint32_t sequence,
                              uint8_t *out, size_t out_len);
 
@@ -128,14 +133,23 @@ uint64_t kadalumbir_new_name(const uint8_t *page, size_t page_len, size_t gap, u
 
 /* Writes the page as the rename of the log by the author (node, sequence) makes it: the log's k-th name becomes one
  * tuple with offset k, and other names change so that the order stays. A name gains at most one tuple.
- * Refuses 1, 2, 3, 4, 5, 6, 8. Stack: 900 bytes. */
+ * Refuses 1, 2, 3, 4, 5, 6, 8. Stack: 1300 bytes. */
 uint64_t kadalumbir_rename(const uint8_t *page, size_t page_len, const uint8_t *log, size_t log_len, uint16_t node,
                            uint32_t sequence, uint8_t *out, size_t out_len);
 
 /* Writes the page, which has names of after that rename, with the names of before it.
- * Refuses 1, 2, 3, 4, 6, 7, 8. Stack: 1400 bytes. */
+ * Refuses 1, 2, 3, 4, 6, 7, 8. Stack: 2500 bytes. */
 uint64_t kadalumbir_take_back(const uint8_t *page, size_t page_len, const uint8_t *log, size_t log_len, uint16_t node,
                               uint32_t sequence, uint8_t *out, size_t out_len);
+
+/* ---- old pages: the count is that of the slots, which keep their order, their names and their line numbers in `out` */
+
+/* Writes the old page as a page. Refuses 1, 2, 8. Stack: 200 bytes. */
+uint64_t kadalumbir_from_old(const uint8_t *old, size_t old_len, uint8_t *out, size_t out_len);
+
+/* Writes the page as an old page, where every name has at most 8 tuples.
+ * Refuses 1, 2, 6, 8. Stack: 200 bytes. */
+uint64_t kadalumbir_to_old(const uint8_t *page, size_t page_len, uint8_t *out, size_t out_len);
 
 /* ---- epochs: each entry of the table but the first is the rename of its node and sequence */
 
@@ -159,14 +173,14 @@ enum { KADALUMBIR_INSERT = 1, KADALUMBIR_REMOVE = 2, KADALUMBIR_RENAME = 3 };
 /* Writes the message of these parts; the names are slots with line number 0. The count is that of its bytes.
  * Refuses 15 (any parts that reading cannot give: a bad kind, epoch, author or name, a wrong number of names, names of a
  * rename not rising, a slot's line number other than 0, a line number other than 0 where the kind is not insert), 8.
- * Stack: 300 bytes. */
+ * Stack: 200 bytes. */
 uint64_t kadalumbir_write_message(uint8_t kind, uint16_t epoch_node, uint32_t epoch_sequence, uint16_t author_node,
                                   uint32_t author_sequence, uint32_t line, const uint8_t *names, size_t names_len,
                                   uint8_t *out, size_t out_len);
 
 /* Sets kind, epoch, author and line number (0 unless insert), and writes the names, in slots with line number 0. The count
  * is that of the slots. A message has one writing, so that writing what was read gives the same bytes.
- * Refuses 15, 8. Stack: 400 bytes. */
+ * Refuses 15, 8. Stack: 200 bytes. */
 uint64_t kadalumbir_read_message(const uint8_t *message, size_t message_len, uint8_t *kind, uint16_t *epoch_node,
                                  uint32_t *epoch_sequence, uint16_t *author_node, uint32_t *author_sequence,
                                  uint32_t *line, uint8_t *out, size_t out_len);

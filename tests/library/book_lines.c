@@ -59,7 +59,7 @@ static void slot_line(void)
 
 static void byte_line(void)
 {
-    size_t at = (size_t)read_number();
+    size_t at = read_size();
     uint8_t value = (uint8_t)read_number();
     read_given_slot(&slot, 7);
     slot.bytes[at] = value;

@@ -279,7 +279,7 @@ static Name long_page_name(bool back)
         return once_in(2) ? child_row() : followed(&start, &name);
     if (once_in(30))
         return start;
-    return once_in(20) ? deepened(name) : name;
+    return once_in(20) ? deepened(name, DEPTH_LIMIT) : name;
 }
 
 LongParts long_parts(bool back)

@@ -112,7 +112,7 @@ void take_back_case(void)
 void long_check_case(void)
 {
     choose_numbers();
-    make_long_page(&page, long_count(), once_in(2));
+    make_long_page(&page, long_count(), DEPTH_LIMIT, once_in(2));
     maybe_damage_bytes(4, &page, SLOT_BYTES);
     hold_checks();
 }
@@ -122,7 +122,7 @@ static void make_long_slot(void)
 {
     Name name = once_in(3) ? random_name() : long_logged_name(random_below(SLOT_LIMIT + 1));
     if (once_in(3))
-        name = deepened(name);
+        name = deepened(name, DEPTH_LIMIT);
     slot.length = 0;
     add_slot(&slot, random_line(), &name);
     if (slots_of(&page) > 0 && once_in(3))
@@ -132,7 +132,7 @@ static void make_long_slot(void)
 void long_edit_case(void)
 {
     choose_numbers();
-    make_long_page(&page, long_count(), false);
+    make_long_page(&page, long_count(), DEPTH_LIMIT, false);
     maybe_damage_bytes(20, &page, SLOT_BYTES);
     make_long_slot();
     switch (random_below(3)) {
@@ -155,7 +155,7 @@ void long_rename_case(void)
     }
     make_page(&page, &parts.page);
     if (once_in(20))
-        make_long_page(&page, long_count(), false);
+        make_long_page(&page, long_count(), DEPTH_LIMIT, false);
     maybe_damage_bytes(30, &log_bytes, SLOT_BYTES);
     hold_renaming(back, parts.node, parts.sequence);
 }

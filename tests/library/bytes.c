@@ -57,14 +57,14 @@ void fill_slots(Bytes *bytes, size_t slots, Name name)
     }
 }
 
-void make_long_page(Bytes *bytes, size_t slots, bool log)
+void make_long_page(Bytes *bytes, size_t slots, size_t limit, bool log)
 {
     size_t deeper = once_in(4) ? 1 : 8;
     bytes->length = 0;
     for (size_t i = 0; i < slots; i++) {
         Name name = long_logged_name(i);
         if (once_in(deeper))
-            name = deepened(name);
+            name = deepened(name, limit);
         add_slot(bytes, log ? 0 : random_line(), &name);
     }
 }
@@ -74,6 +74,15 @@ size_t long_count(void)
     if (once_in(2))
         return SLOT_LIMIT;
     return once_in(2) ? SLOT_LIMIT - 1 + random_below(3) : random_below(SLOT_LIMIT);
+}
+
+void make_old_page(Bytes *old, const Bytes *page)
+{
+    old->length = 0;
+    for (size_t at = 0; at + SLOT_BYTES <= page->length; at += SLOT_BYTES) {
+        memcpy(old->bytes + old->length, page->bytes + at, OLD_SLOT_BYTES);
+        old->length += OLD_SLOT_BYTES;
+    }
 }
 
 void log_of(const Bytes *page, Bytes *log)
@@ -90,7 +99,8 @@ void cut_bytes(Bytes *bytes, size_t count)
 
 static uint8_t random_byte(void)
 {
-    static const uint8_t values[] = {0, 1, 2, 8, 9, 127, 128, 255};
+    static const uint8_t values[] = {0, 1, 2, OLD_DEPTH_LIMIT, OLD_DEPTH_LIMIT + 1, DEPTH_LIMIT, DEPTH_LIMIT + 1,
+                                     127, 128, 255};
     return values[random_below(LENGTH(values))];
 }
 

@@ -23,9 +23,12 @@ void make_log(Bytes *log, const Names *names);
 /* So many slots of line 0 with this name, its first tuple with the sequences 0, 1, .. */
 void fill_slots(Bytes *bytes, size_t slots, Name name);
 
-/* So many slots with the names of a long log, some or all of them deeper; mostly 256 or next to it. */
-void make_long_page(Bytes *bytes, size_t slots, bool log);
+/* So many slots with the names of a long log, some or all of them deepened to this limit; mostly 256 or next to it. */
+void make_long_page(Bytes *bytes, size_t slots, size_t limit, bool log);
 size_t long_count(void);
+
+/* Each slot cut to the bytes of an old one: an old page, where no name is too deep for it. */
+void make_old_page(Bytes *old, const Bytes *page);
 
 /* The slots of a page with line number 0: the log of a rename that makes all of its names short. */
 void log_of(const Bytes *page, Bytes *log);

@@ -14,7 +14,7 @@ static struct {
 
 static size_t renamed;
 
-static Bytes page, slot, spoilt;
+static Bytes page, slot, spoilt, old;
 
 /* The unit that edits; each of its new names has a sequence of its own. */
 static uint16_t unit;
@@ -82,9 +82,10 @@ static void try_spoilt(void)
 {
     copy_bytes(&page, &spoilt);
     damage_bytes(&spoilt, SLOT_BYTES);
-    switch (random_below(3)) {
+    switch (random_below(4)) {
     case 0: hold_check_page(&spoilt); break;
     case 1: hold_new_name(&spoilt, choose_gap(), unit, next_sequence, SLOT_BYTES); break;
+    case 2: hold_to_old(&spoilt, room_for(slots_of(&spoilt) * OLD_SLOT_BYTES)); break;
     default:
         if (renamed > 0)
             hold_take_back(&spoilt, &renames[renamed - 1].log, renames[renamed - 1].node, renames[renamed - 1].sequence,
@@ -93,11 +94,31 @@ static void try_spoilt(void)
     }
 }
 
+/* To an old page and back, and goes on with what comes back. */
+static void convert_book(void)
+{
+    if (hold_old_and_back(&page).answer == ACCEPTED)
+        take_output(&page, page.length);
+}
+
+/* The book is one that was kept as an old page. */
+static void begin_with_old(void)
+{
+    choose_numbers();
+    Names names = names_within(OLD_DEPTH_LIMIT, NAMES);
+    make_page(&page, &names);
+    make_old_page(&old, &page);
+    hold_new_and_back(&old);
+    go_on(hold_from_old(&old, chain_room(page.length)));
+}
+
 static void edit(size_t times)
 {
     for (size_t i = 0; i < times; i++) {
         if (once_in(12))
             try_spoilt();
+        if (once_in(12))
+            convert_book();
         if (once_in(5))
             remove_line();
         else if (once_in(4))
@@ -141,6 +162,8 @@ void book_chain(void)
     unit = (uint16_t)(1 + random_below(3));
     next_sequence = 0;
     crowded = once_in(2);
+    if (once_in(4))
+        begin_with_old();
     edit(once_in(60) ? 400 : random_below(24));
     for (size_t i = 1 + random_below(4); i > 0; i--) {
         if (once_in(3))

@@ -1,6 +1,6 @@
 /*
  * driver SEED CASES LEAST: holds the library to the plain C of tests/reference on at least so many random cases, the same
- * for the same seed, and prints what was met. Fails if a case differs, or if an answer that 01 has for a call, or a way in
+ * for the same seed, and prints what was met. Fails if a case differs, or if an answer that 01 or 02 has for a call, or a way in
  * which it renames a name or takes it back, was met fewer than LEAST times.
  */
 #include <stdio.h>
@@ -15,10 +15,10 @@ static const struct {
     size_t share;
 } sorts[] = {
     {check_case, 10},      {slot_case, 5},      {insert_case, 25},    {remove_case, 20},     {gap_case, 30},
-    {rename_case, 60},     {take_back_case, 60}, {table_case, 20},    {step_case, 15},       {walk_case, 15},
-    {add_case, 30},        {write_case, 40},    {read_case, 40},      {cuts_case, 2},        {many_case, 6},
-    {long_check_case, 4},  {long_edit_case, 10}, {long_rename_case, 6}, {book_chain, 4},     {epoch_chain, 2},
-    {message_chain, 4},
+    {rename_case, 60},     {take_back_case, 60}, {from_old_case, 15}, {to_old_case, 20},     {table_case, 20},
+    {step_case, 15},       {walk_case, 15},     {add_case, 30},       {write_case, 40},      {read_case, 40},
+    {cuts_case, 2},        {many_case, 6},      {long_check_case, 4}, {long_edit_case, 10},  {long_rename_case, 6},
+    {book_chain, 4},       {epoch_chain, 2},    {message_chain, 4},
 };
 
 static size_t all_shares(void)

@@ -15,6 +15,22 @@
 #include "../reference/edits.h"
 #include "../reference/renames.h"
 
+/* The sizes that the header says are those of the plain C: where one is not, this does not compile. */
+#define SAME(said, must) typedef char said##_is_##must[(said) == (must) ? 1 : -1]
+
+SAME(KADALUMBIR_TUPLE_BYTES, TUPLE_BYTES);
+SAME(KADALUMBIR_TUPLES, DEPTH_LIMIT);
+SAME(KADALUMBIR_SLOT_BYTES, SLOT_BYTES);
+SAME(KADALUMBIR_SLOTS, SLOT_LIMIT);
+SAME(KADALUMBIR_PAGE_BYTES, PAGE_BYTES);
+SAME(KADALUMBIR_OLD_TUPLES, OLD_DEPTH_LIMIT);
+SAME(KADALUMBIR_OLD_SLOT_BYTES, OLD_SLOT_BYTES);
+SAME(KADALUMBIR_OLD_PAGE_BYTES, OLD_PAGE_BYTES);
+SAME(KADALUMBIR_ENTRY_BYTES, ENTRY_BYTES);
+SAME(KADALUMBIR_ENTRIES, ENTRY_LIMIT);
+SAME(KADALUMBIR_TABLE_BYTES, TABLE_BYTES);
+SAME(KADALUMBIR_MESSAGE_BYTES, LONGEST_MESSAGE);
+
 /* ---- the calls, what was met of them, and what differed */
 
 typedef enum {
@@ -26,6 +42,8 @@ typedef enum {
     NEW_NAME,
     RENAME_PAGE,
     TAKE_BACK,
+    FROM_OLD,
+    TO_OLD,
     NEXT_STEP,
     ADD_EPOCH,
     WRITE_MESSAGE,
@@ -35,7 +53,8 @@ typedef enum {
 
 enum { ANSWERS = 19, DIFFERENCES_TOLD = 10 };
 
-/* Of each call the answers that 01 has for it, ended by -1: "Order" of "What comes back". */
+/* Of each call the answers that 01 and 02 have for it, ended by -1: "Order" of "What comes back", and "Refusals of a
+ * conversion". */
 static const struct {
     const char *name;
     int answers[10];
@@ -48,6 +67,8 @@ static const struct {
     [NEW_NAME] = {"new_name", {0, 1, 2, 4, 16, 12, 6, 8, -1}},
     [RENAME_PAGE] = {"rename", {0, 1, 2, 3, 4, 5, 6, 8, -1}},
     [TAKE_BACK] = {"take_back", {0, 1, 2, 3, 4, 6, 7, 8, -1}},
+    [FROM_OLD] = {"from_old", {0, 1, 2, 8, -1}},
+    [TO_OLD] = {"to_old", {0, 1, 2, 6, 8, -1}},
     [NEXT_STEP] = {"next_step", {0, 13, 14, -1}},
     [ADD_EPOCH] = {"add_epoch", {0, 13, 14, 4, 17, 18, 8, -1}},
     [WRITE_MESSAGE] = {"write_message", {0, 15, 8, -1}},
@@ -133,21 +154,27 @@ static void lend_input(Lent *lent, const Bytes *input)
     memcpy(lent->end - input->length, input->bytes, input->length);
 }
 
-/* What byte i of the output is before the call, those before it among them. */
-static uint8_t canary;
+/* What the bytes of an output are before a call, FRONT bytes before it among them: a part of a row of these, which comes again
+ * after CANARIES bytes. */
+enum { CANARIES = 256 };
 
-static uint8_t before(size_t i)
+static uint8_t canaries[CANARIES + FRONT + MOST_BYTES];
+static const uint8_t *before;
+
+static void make_canaries(void)
 {
-    return (uint8_t)(canary + 7 * i);
+    for (size_t i = 0; i < sizeof canaries; i++)
+        canaries[i] = (uint8_t)(7 * i);
 }
 
 static void lend_output(size_t room)
 {
-    canary = (uint8_t)random_below(256);
+    if (before == NULL)
+        make_canaries();
+    before = canaries + random_below(CANARIES);
     lend(&output, room);
-    uint8_t *front = output.end - room - FRONT;
-    for (size_t i = 0; i < FRONT + room; i++)
-        front[i] = must_bytes[i] = before(i);
+    memcpy(output.end - room - FRONT, before, FRONT + room);
+    memcpy(must_bytes, before, FRONT + room);
 }
 
 /* Begins a case: its call, one or two inputs, and the room of its output. */
@@ -189,7 +216,7 @@ size_t changed_after(size_t length)
 {
     size_t changed = 0;
     for (size_t i = length; i < output.length; i++)
-        if (output.end[i - output.length] != before(FRONT + i))
+        if (output.end[i - output.length] != before[FRONT + i])
             changed++;
     return changed;
 }
@@ -368,6 +395,45 @@ Outcome hold_take_back(const Bytes *page, const Bytes *log, uint16_t node, uint3
         count_renamed(log->length <= LONG_LOG ? BY_TAKING_BACK : BY_LONG_TAKING_BACK, page, log, node, sequence,
                       take_name_back);
     return hold(is, must);
+}
+
+Outcome hold_from_old(const Bytes *old, size_t room)
+{
+    begin(FROM_OLD, old, NULL, room);
+    uint64_t is = kadalumbir_from_old(first.bytes, first.length, output.bytes, room);
+    return hold(is, from_old(old->bytes, old->length, must_bytes + FRONT, room));
+}
+
+Outcome hold_to_old(const Bytes *page, size_t room)
+{
+    begin(TO_OLD, page, NULL, room);
+    uint64_t is = kadalumbir_to_old(first.bytes, first.length, output.bytes, room);
+    return hold(is, to_old(page->bytes, page->length, must_bytes + FRONT, room));
+}
+
+/* "The names and line numbers are equal both ways", and so is every byte. What is converted has slots of so many bytes. */
+static Outcome hold_there_and_back(const Bytes *page, size_t slot_bytes, Outcome (*there)(const Bytes *page, size_t room),
+                                   Outcome (*back)(const Bytes *page, size_t room))
+{
+    static Bytes converted;
+    Outcome outcome = there(page, MOST_BYTES);
+    if (outcome.answer != ACCEPTED)
+        return outcome;
+    take_output(&converted, outcome.count * slot_bytes);
+    back(&converted, page->length);
+    bool same = memcmp(output.end - output.length, page->bytes, page->length) == 0;
+    hold_number("whether the page came back", same, 1);
+    return outcome;
+}
+
+Outcome hold_old_and_back(const Bytes *page)
+{
+    return hold_there_and_back(page, OLD_SLOT_BYTES, hold_to_old, hold_from_old);
+}
+
+Outcome hold_new_and_back(const Bytes *old)
+{
+    return hold_there_and_back(old, SLOT_BYTES, hold_from_old, hold_to_old);
 }
 
 Outcome hold_next_step(const Bytes *table, size_t current, uint8_t *step, uint32_t *index)

@@ -7,6 +7,7 @@
 
 #include "../reference/epochs.h"
 #include "../reference/messages.h"
+#include "../reference/old_pages.h"
 
 enum {
     MOST_BYTES = PAGE_BYTES + 2 * SLOT_BYTES /* of an input or an output */
@@ -27,6 +28,8 @@ Outcome hold_remove(const Bytes *page, const Bytes *slot, size_t room);
 Outcome hold_new_name(const Bytes *page, size_t gap, uint16_t node, uint32_t sequence, size_t room);
 Outcome hold_rename(const Bytes *page, const Bytes *log, uint16_t node, uint32_t sequence, size_t room);
 Outcome hold_take_back(const Bytes *page, const Bytes *log, uint16_t node, uint32_t sequence, size_t room);
+Outcome hold_from_old(const Bytes *old, size_t room);
+Outcome hold_to_old(const Bytes *page, size_t room);
 Outcome hold_next_step(const Bytes *table, size_t current, uint8_t *step, uint32_t *index);
 Outcome hold_add_epoch(const Bytes *table, size_t parent, uint16_t node, uint32_t sequence, size_t room);
 Outcome hold_write_message(const Numbers *numbers, const Bytes *names, size_t room);
@@ -35,6 +38,11 @@ Outcome hold_read_message(const Bytes *message, Numbers *numbers, size_t room);
 /* Follows the next step from an entry until one stays or is refused, gives the answer of the first, and holds the indices
  * passed to those of the plain C. */
 int hold_walk(const Bytes *table, size_t current, Path *walked);
+
+/* Convert a page and, where that is accepted, the outcome back, which must have the same bytes; give the outcome of the
+ * first. */
+Outcome hold_old_and_back(const Bytes *page);
+Outcome hold_new_and_back(const Bytes *old);
 
 /* The first bytes of the output of the last call, as the library left them; and how many bytes after those are not as they
  * were before it. */
@@ -46,7 +54,7 @@ size_t cases_held(void);
 size_t differences_found(void);
 
 /* Prints how often each answer of each call was met, and each way in which a call comes to what it gives. Whether no case
- * differed, and each of those that 01 has was met at least so often. */
+ * differed, and each of those that 01 and 02 have was met at least so often. */
 bool tell_what_was_met(size_t least);
 
 #endif

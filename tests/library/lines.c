@@ -1,7 +1,7 @@
 /*
- * lines SUBJECT: runs the lines of text about books, epochs or messages that stand on standard input, each against the plain
- * C, and writes each again with what came back. Fails if the library and the plain C differ in anything. A line that begins
- * with '#' is a title.
+ * lines SUBJECT: runs the lines of text about books, old_pages, epochs or messages that stand on standard input, each against
+ * the plain C, and writes each again with what came back. Fails if the library and the plain C differ in anything. A line that
+ * begins with '#' is a title.
  */
 #include "lines.h"
 
@@ -52,9 +52,11 @@ static Tuple read_line_tuple(void)
 Name read_name(void)
 {
     Name name = {0, {{0, 0, 0, 0}}};
-    do
-        name.tuples[name.depth++] = read_line_tuple();
-    while (rest[-1] == '/' && name.depth < DEPTH_LIMIT);
+    do {
+        Tuple t = read_line_tuple();
+        for (int64_t times = rest[-1] == '*' ? read_number() : 1; times > 0 && name.depth < DEPTH_LIMIT; times--)
+            name.tuples[name.depth++] = t;
+    } while (rest[-1] == '/' && name.depth < DEPTH_LIMIT);
     return name;
 }
 
@@ -83,9 +85,22 @@ void read_names(Bytes *log, size_t most, uint32_t line)
     }
 }
 
+size_t read_size(void)
+{
+    size_t size = (size_t)read_number();
+    if (rest[-1] != 's' && rest[-1] != 'o')
+        return size;
+    size *= rest[-1] == 's' ? SLOT_BYTES : OLD_SLOT_BYTES;
+    if (*rest == '+' || *rest == '-')
+        size += (size_t)read_number();
+    else if (!line_ended())
+        rest++;
+    return size;
+}
+
 size_t read_room(void)
 {
-    size_t room = (size_t)read_number();
+    size_t room = read_size();
     return room <= MOST_BYTES ? room : MOST_BYTES;
 }
 
@@ -118,6 +133,8 @@ static const LineKind *kinds_of(const char *subject)
 {
     if (strcmp(subject, "books") == 0)
         return book_lines;
+    if (strcmp(subject, "old_pages") == 0)
+        return old_page_lines;
     if (strcmp(subject, "epochs") == 0)
         return epoch_lines;
     if (strcmp(subject, "messages") == 0)

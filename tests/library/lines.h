@@ -13,13 +13,16 @@ void read_hex(Bytes *bytes);
 
 bool line_ended(void);
 
-/* The next name of the line, and a slot of it. A name is written as the listing shows it. */
+/* The next name of the line, and a slot of it. A name is written as the listing shows it; TUPLE*N is the tuple N times. */
 Name read_name(void);
 void read_given_slot(Bytes *slot, uint32_t line);
 
 /* The names up to the end of the line, or so many, as slots with the line numbers 1, 2, .. or all with this one. */
 void read_book(Bytes *page);
 void read_names(Bytes *log, size_t most, uint32_t line);
+
+/* The next size or place of the line, in bytes, or in slots or old slots and bytes: 44, 2s, 2s-1, 256o+1. */
+size_t read_size(void);
 
 /* The bytes of an output of which so many are asked for. */
 size_t read_room(void);
@@ -33,6 +36,6 @@ typedef struct {
     void (*run)(void);
 } LineKind;
 
-extern const LineKind book_lines[], epoch_lines[], message_lines[];
+extern const LineKind book_lines[], old_page_lines[], epoch_lines[], message_lines[];
 
 #endif

@@ -103,14 +103,14 @@ static void write_line(void)
 
 static void spoil_line(void)
 {
-    size_t at = (size_t)read_number();
+    size_t at = read_size();
     uint8_t value = (uint8_t)read_number();
     write_damaged(at, value, 0);
 }
 
 static void trim_line(void)
 {
-    size_t less = (size_t)read_number();
+    size_t less = read_size();
     write_damaged(SIZE_MAX, 0, less);
 }
 

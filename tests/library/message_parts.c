@@ -31,7 +31,7 @@ static Names one_name(void)
 {
     Names row = {1, {random_name()}};
     if (once_in(8))
-        row.names[0] = deepened(row.names[0]);
+        row.names[0] = deepened(row.names[0], DEPTH_LIMIT);
     return row;
 }
 
@@ -44,7 +44,7 @@ MessageParts message_parts(void)
     parts.numbers.line = line_of_kind(parts.numbers.kind);
     bool many = parts.numbers.kind == RENAME || once_in(20);
     parts.names = many ? random_names(once_in(4) ? NAMES : 3) : one_name();
-    if (once_in(10))
+    if (once_in(7))
         damage(&parts.names);
     return parts;
 }
@@ -144,7 +144,7 @@ Message message_of(const Fields *row)
     return message;
 }
 
-/* Harmless on an empty message; the array has a byte to spare, since not every field is a name of nine tuples. */
+/* Harmless on an empty message; the array has a byte to spare, since not every field is a name one tuple too deep. */
 void damage_message(Message *message)
 {
     static const uint8_t values[] = {0, 1, 2, 127, 128, 254, 255};

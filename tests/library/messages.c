@@ -79,13 +79,12 @@ void many_case(void)
     static const size_t sizes[] = {0, 1, 2, 128, 255, 256, 256, 257};
     choose_numbers();
     size_t count = once_in(2) ? sizes[random_below(LENGTH(sizes))] : random_below(SLOT_LIMIT + 2);
-    Name name = once_in(3) ? deepened(random_name()) : random_name();
+    Name name = once_in(3) ? deepened(random_name(), DEPTH_LIMIT) : random_name();
     if (once_in(8))
         break_name(&name);
     fill_slots(&names, count, name);
     Numbers numbers = {RENAME, {0, 0}, {1, 1}, 0};
-    size_t head = 3 * FIELD_HEAD_BYTES + KIND_BYTES + 2 * PAIR_BYTES;
-    size_t room = room_for(head + count * (FIELD_HEAD_BYTES + name.depth * TUPLE_BYTES));
+    size_t room = room_for(NUMBERS_BYTES + count * (FIELD_HEAD_BYTES + name.depth * TUPLE_BYTES));
     Outcome written = hold_write_message(&numbers, &names, room);
     take_output(&message, written.count);
     hold_read_message(&message, &numbers, names.length);
@@ -104,7 +103,7 @@ static Numbers make_parts(void)
     while (parts.names.count == 0 || parts.numbers.author.node == 0);
     make_log(&names, &parts.names);
     if (parts.numbers.kind == RENAME && once_in(4))
-        make_long_page(&names, long_count(), true);
+        make_long_page(&names, long_count(), DEPTH_LIMIT, true);
     return parts.numbers;
 }
 

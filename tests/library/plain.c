@@ -3,6 +3,7 @@
 #include "../reference/edits.h"
 #include "../reference/epochs.h"
 #include "../reference/messages.h"
+#include "../reference/old_pages.h"
 #include "../reference/renames.h"
 
 static uint64_t packed(Outcome outcome)
@@ -65,6 +66,16 @@ uint64_t kadalumbir_take_back(const uint8_t *page, size_t page_len, const uint8_
                               uint32_t sequence, uint8_t *out, size_t out_len)
 {
     return packed(take_page_back(page, page_len, log, log_len, node, sequence, out, out_len));
+}
+
+uint64_t kadalumbir_from_old(const uint8_t *old, size_t old_len, uint8_t *out, size_t out_len)
+{
+    return packed(from_old(old, old_len, out, out_len));
+}
+
+uint64_t kadalumbir_to_old(const uint8_t *page, size_t page_len, uint8_t *out, size_t out_len)
+{
+    return packed(to_old(page, page_len, out, out_len));
 }
 
 uint64_t kadalumbir_next_step(const uint8_t *table, size_t table_len, size_t current, uint8_t *step, uint32_t *index)

@@ -113,13 +113,21 @@ Name random_name(void)
     return name;
 }
 
-Name deepened(Name name)
+Name deepened(Name name, size_t limit)
 {
-    size_t depth = DEPTH_LIMIT - random_below(2);
+    size_t depth = limit - random_below(2);
     if (name.depth >= depth)
         return name;
     Name tail = random_row(depth - name.depth);
     return followed(&name, &tail);
+}
+
+Name shortened(Name name, size_t limit)
+{
+    if (name.depth <= limit)
+        return name;
+    Name start = first_tuples(&name, limit - 1), end = random_row(1);
+    return followed(&start, &end);
 }
 
 void choose_numbers(void)
@@ -170,7 +178,19 @@ Names random_names(size_t most)
     for (size_t i = 0; i < row.count; i++) {
         row.names[i] = random_name();
         if (deepest > 4 && once_in(4))
-            row.names[i] = deepened(row.names[i]);
+            row.names[i] = deepened(row.names[i], DEPTH_LIMIT);
+    }
+    put_in_order(&row);
+    return row;
+}
+
+Names names_within(size_t limit, size_t most)
+{
+    Names row = random_names(most);
+    for (size_t i = 0; i < row.count; i++) {
+        row.names[i] = shortened(row.names[i], limit);
+        if (once_in(4))
+            row.names[i] = deepened(row.names[i], limit);
     }
     put_in_order(&row);
     return row;

@@ -32,12 +32,14 @@ Name followed(const Name *a, const Name *b);
 Name shifted(const Name *name);
 Name joined_by_marker(const Name *name, const Name *tail);
 
-/* Any name of this case's numbers, and one of seven or eight tuples where that can be had. */
+/* Any name of this case's numbers; a name with tuples added, up to so many or one fewer; and one that has at most so many. */
 Name random_name(void);
-Name deepened(Name name);
+Name deepened(Name name, size_t limit);
+Name shortened(Name name, size_t limit);
 
-/* Names in rising order. */
+/* Names in rising order; and such of which none has more than so many tuples, and some have as many. */
 Names random_names(size_t most);
+Names names_within(size_t limit, size_t most);
 void put_in_order(Names *row);
 void keep_at_most(Names *row, size_t most);
 

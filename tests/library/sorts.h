@@ -10,6 +10,8 @@ void remove_case(void);
 void gap_case(void);
 void rename_case(void);
 void take_back_case(void);
+void from_old_case(void);
+void to_old_case(void);
 void table_case(void);
 void step_case(void);
 void add_case(void);
@@ -27,8 +29,9 @@ void long_check_case(void);
 void long_edit_case(void);
 void long_rename_case(void);
 
-/* Many calls, each with what the library gave before: edits, a rename, edits, the taking back; a table that grows, walked to
- * its target each time; a message written, read, written again, damaged and read. */
+/* Many calls, each with what the library gave before: now and then an old page converted; edits, and between them conversions
+ * to an old page and back, a rename, edits, the taking back; a table that grows, walked to its target each time; a message
+ * written, read, written again, damaged and read. */
 void book_chain(void);
 void epoch_chain(void);
 void message_chain(void);

@@ -9,10 +9,14 @@
 #include <stdlib.h>
 #include <string.h>
 
-#include "../reference/book.h"
 #include "../reference/chance.h"
+#include "../reference/old_pages.h"
 
 enum { LONGEST_INPUT = 1000000, LABEL_BYTES = 64 };
+
+static const size_t depth_limits[] = {OLD_DEPTH_LIMIT, DEPTH_LIMIT};
+
+#define COUNT(row) (sizeof(row) / sizeof *(row))
 
 /* The input that is being made. */
 static uint8_t input[LONGEST_INPUT];
@@ -79,6 +83,14 @@ static void keep(int answer, const char *label, ...)
     write_input(file_name);
 }
 
+/* The label and a number; it stands until the next one is made. */
+static const char *numbered(const char *label, size_t number)
+{
+    static char text[LABEL_BYTES];
+    snprintf(text, sizeof text, "%s-%zu", label, number);
+    return text;
+}
+
 /* ---- names by hand */
 
 static Name name_of(size_t depth, const Tuple *tuples)
@@ -98,6 +110,14 @@ static Name plain_name(size_t depth)
     Name name = {depth, {{0, 0, 0, 0}}};
     for (size_t i = 0; i < depth; i++)
         name.tuples[i] = plain;
+    return name;
+}
+
+/* A plain name of this depth, but for its last tuple. */
+static Name plain_but_last(size_t depth, Tuple last)
+{
+    Name name = plain_name(depth);
+    name.tuples[depth - 1] = last;
     return name;
 }
 
@@ -154,42 +174,61 @@ static void lengths(void)
 {
     begin();
     keep(ACCEPTED, "empty");
-    static const size_t parts_of_slots[] = {1, 103, 105, 207, 209};
-    for (size_t i = 0; i < sizeof parts_of_slots / sizeof *parts_of_slots; i++) {
-        rising_slots(3);
+    static const size_t parts_of_slots[] = {
+        1, OLD_SLOT_BYTES - 1, OLD_SLOT_BYTES, OLD_SLOT_BYTES + 1, SLOT_BYTES - 1, SLOT_BYTES + 1,
+        2 * OLD_SLOT_BYTES - 1, 2 * OLD_SLOT_BYTES, 2 * OLD_SLOT_BYTES + 1, 2 * SLOT_BYTES - 1, 2 * SLOT_BYTES + 1,
+        OLD_PAGE_BYTES - 1, OLD_PAGE_BYTES, OLD_PAGE_BYTES + 1, PAGE_BYTES - 1
+    };
+    for (size_t i = 0; i < COUNT(parts_of_slots); i++) {
+        rising_slots(SLOT_LIMIT);
         set_length(parts_of_slots[i]);
         keep(PAGE_LAYOUT, "bytes-%zu", parts_of_slots[i]);
     }
     rising_slots(SLOT_LIMIT);
-    keep(ACCEPTED, "slots-256");
-    set_length(PAGE_BYTES - 1);
-    keep(PAGE_LAYOUT, "bytes-26623");
-    rising_slots(SLOT_LIMIT);
+    keep(ACCEPTED, "slots-%d", SLOT_LIMIT);
     set_length(PAGE_BYTES + 1);
-    keep(PAGE_LAYOUT, "bytes-26625");
+    keep(PAGE_LAYOUT, "page-and-a-byte");
     rising_slots(SLOT_LIMIT + 1);
-    keep(PAGE_LAYOUT, "slots-257");
+    keep(PAGE_LAYOUT, "slots-%d", SLOT_LIMIT + 1);
     rising_slots(2 * SLOT_LIMIT);
-    keep(PAGE_LAYOUT, "slots-512");
+    keep(PAGE_LAYOUT, "slots-%d", 2 * SLOT_LIMIT);
     rising_slots(SLOT_LIMIT);
     set_length(LONGEST_INPUT);
-    keep(PAGE_LAYOUT, "bytes-1000000");
-    begin();
-    set_length(SLOT_BYTES);
-    keep(PAGE_LAYOUT, "zeros-104");
-    set_length(PAGE_BYTES);
-    keep(PAGE_LAYOUT, "zeros-26624");
+    keep(PAGE_LAYOUT, "bytes-%d", LONGEST_INPUT);
+    static const size_t zeros[] = {OLD_SLOT_BYTES, SLOT_BYTES, OLD_PAGE_BYTES, PAGE_BYTES};
+    for (size_t i = 0; i < COUNT(zeros); i++) {
+        begin();
+        set_length(zeros[i]);
+        keep(PAGE_LAYOUT, "zeros-%zu", zeros[i]);
+    }
+}
+
+/* 02, P8: "A slot becomes 200 bytes, 16 tuples after the same first eight bytes": an old slot is the beginning of a new one,
+ * and where whole old slots are whole new ones too, the second stands where the first has its filler. */
+static void old_pages(void)
+{
+    static const size_t counts[] = {1, 25, 250, SLOT_LIMIT};
+    for (size_t i = 0; i < COUNT(counts); i++)
+        for (size_t depth = 1; depth <= OLD_DEPTH_LIMIT; depth += OLD_DEPTH_LIMIT - 1) {
+            begin();
+            for (size_t k = 0; k < counts[i]; k++) {
+                Slot slot = {7, plain_but_last(depth, (Tuple){9, 2, 0, (int32_t)k})};
+                write_slot_of(OLD_DEPTH_LIMIT, input + k * OLD_SLOT_BYTES, &slot);
+            }
+            input_length = counts[i] * OLD_SLOT_BYTES;
+            keep(PAGE_LAYOUT, "old-page-of-%zu-with-depth-%zu", counts[i], depth);
+        }
 }
 
 /* Depths out of range, depths that are not the name's own, and the three zero bytes. */
 static void heads(void)
 {
-    static const uint8_t depths[] = {0, 9, 255};
-    for (size_t i = 0; i < sizeof depths; i++) {
+    static const uint8_t depths[] = {0, OLD_DEPTH_LIMIT, OLD_DEPTH_LIMIT + 1, DEPTH_LIMIT - 1, DEPTH_LIMIT + 1, 255};
+    for (size_t i = 0; i < COUNT(depths); i++) {
         begin();
         add(7, plain_name(DEPTH_LIMIT));
         slot_bytes(0)[0] = depths[i];
-        keep(PAGE_LAYOUT, "depth-%d", depths[i]);
+        keep(PAGE_LAYOUT, "depth-%d-of-%d-tuples", depths[i], DEPTH_LIMIT);
     }
     begin();
     add(7, plain_name(2));
@@ -220,7 +259,7 @@ static void fillers(void)
         slot_bytes(0)[SLOT_BYTES - 1] = 1;
         keep(PAGE_LAYOUT, "depth-%zu-last-filler", depth);
     }
-    one_name(ACCEPTED, "depth-8", plain_name(DEPTH_LIMIT));
+    one_name(ACCEPTED, numbered("depth", DEPTH_LIMIT), plain_name(DEPTH_LIMIT));
 }
 
 /* "markers may stand only between" */
@@ -243,11 +282,19 @@ static void markers(void)
         one_name(ACCEPTED, text, NAME(plain, marker, plain));
         snprintf(text, sizeof text, "%s-twice-between", both[i].label);
         one_name(ACCEPTED, text, NAME(plain, marker, marker, plain));
-        snprintf(text, sizeof text, "%s-first-and-last-of-depth-8", both[i].label);
-        one_name(PAGE_LAYOUT, text, NAME(marker, plain, plain, plain, plain, plain, plain, marker));
+        for (size_t k = 0; k < COUNT(depth_limits); k++) {
+            Name ends = plain_but_last(depth_limits[k], marker);
+            ends.tuples[0] = marker;
+            snprintf(text, sizeof text, "%s-first-and-last-of-depth-%zu", both[i].label, depth_limits[k]);
+            one_name(PAGE_LAYOUT, text, ends);
+        }
     }
-    one_name(ACCEPTED, "six-markers-between",
-             NAME(plain, low_marker, high_marker, low_marker, high_marker, high_marker, low_marker, plain));
+    for (size_t k = 0; k < COUNT(depth_limits); k++) {
+        Name between = plain_name(depth_limits[k]);
+        for (size_t i = 1; i + 1 < between.depth; i++)
+            between.tuples[i] = i % 4 < 2 ? low_marker : high_marker;
+        one_name(ACCEPTED, numbered("markers-between-of-depth", depth_limits[k]), between);
+    }
 }
 
 /* Tuples that miss a marker by one number; each is put between. */
@@ -259,7 +306,7 @@ static void near_markers(void)
         {65535, 65535, 4294967294, 2147483647}, {65535, 65535, 4294967295, 2147483646},
         {65535, 65535, 4294967295, -1}
     };
-    for (size_t i = 0; i < sizeof tuples / sizeof *tuples; i++) {
+    for (size_t i = 0; i < COUNT(tuples); i++) {
         Tuple t = tuples[i];
         begin();
         add(7, NAME(plain, t, plain));
@@ -296,15 +343,16 @@ static void ranges(void)
     everywhere("node-1", (Tuple){9, 1, 0, 0}, ACCEPTED, ACCEPTED, ACCEPTED);
     everywhere("node-65535", (Tuple){9, 65535, 0, 0}, ACCEPTED, ACCEPTED, ACCEPTED);
     everywhere("sequence-4294967295", (Tuple){9, 2, 4294967295, 0}, ACCEPTED, ACCEPTED, ACCEPTED);
-    one_name(PAGE_LAYOUT, "offset-minus-1-last-of-depth-8",
-             NAME(plain, plain, plain, plain, plain, plain, plain, {9, 2, 0, -1}));
+    for (size_t i = 0; i < COUNT(depth_limits); i++)
+        one_name(PAGE_LAYOUT, numbered("offset-minus-1-last-of-depth", depth_limits[i]),
+                 plain_but_last(depth_limits[i], (Tuple){9, 2, 0, -1}));
 }
 
 /* "line number (u32, any value, repeats allowed)" */
 static void line_numbers(void)
 {
     static const uint32_t lines[] = {0, 10, 2147483648, 4294967295};
-    for (size_t i = 0; i < sizeof lines / sizeof *lines; i++) {
+    for (size_t i = 0; i < COUNT(lines); i++) {
         begin();
         add(lines[i], plain_name(1));
         keep(ACCEPTED, "line-%lu", (unsigned long)lines[i]);
@@ -315,25 +363,40 @@ static void line_numbers(void)
     keep(ACCEPTED, "lines-repeat-and-fall");
 }
 
-/* Every number at its widest: the longest listing that a page can give. */
-static void longest_listing(void)
+/* Every number at its widest: the longest listing that a page of such depths can give. */
+static void longest_listing(size_t depth)
 {
     const Tuple widest = {65534, 65535, 4294967295, 2147483646};
+    Name name = plain_but_last(depth, widest);
+    name.tuples[0] = widest;
+    for (size_t i = 1; i + 1 < depth; i++)
+        name.tuples[i] = high_marker;
     begin();
     for (size_t i = 0; i < SLOT_LIMIT; i++) {
-        Name name = NAME(widest, high_marker, high_marker, high_marker, high_marker, high_marker, high_marker, widest);
-        name.tuples[7].offset -= (int32_t)(SLOT_LIMIT - 1 - i);
+        name.tuples[depth - 1].offset = widest.offset - (int32_t)(SLOT_LIMIT - 1 - i);
         add(4294967295, name);
     }
-    keep(ACCEPTED, "longest-listing");
+    keep(ACCEPTED, "longest-listing-of-depth-%zu", depth);
+}
+
+static void longest_listings(void)
+{
+    for (size_t i = 0; i < COUNT(depth_limits); i++)
+        longest_listing(depth_limits[i]);
+}
+
+/* Names of this depth, and of one less. */
+static void neighbours_of_depth(size_t depth)
+{
+    two_names(PAGE_NOT_RISING, numbered("equal-depth", depth), plain_name(depth), plain_name(depth));
+    smaller(numbered("prefix-of-depth", depth - 1), plain_name(depth - 1), plain_name(depth));
+    smaller(numbered("last-of", depth), plain_name(depth), plain_but_last(depth, (Tuple){9, 2, 0, 1}));
 }
 
 static void neighbours(void)
 {
     two_names(PAGE_NOT_RISING, "equal", plain_name(1), plain_name(1));
-    two_names(PAGE_NOT_RISING, "equal-depth-8", plain_name(8), plain_name(8));
     smaller("prefix", plain_name(1), plain_name(2));
-    smaller("prefix-of-depth-7", plain_name(7), plain_name(8));
     smaller("prefix-before-m", NAME(plain), NAME(plain, low_marker, plain));
     smaller("position", NAME({9, 2, 0, 0}), NAME({10, 2, 0, 0}));
     smaller("position-over-a-byte", NAME({255, 2, 0, 0}), NAME({256, 2, 0, 0}));
@@ -354,16 +417,18 @@ static void neighbours(void)
     smaller("sequence-before-offset", NAME({9, 2, 0, 1}), NAME({9, 2, 1, 0}));
     smaller("first-tuple-decides", NAME({9, 2, 0, 0}, {9, 2, 0, 0}), NAME({9, 2, 0, 1}, {8, 1, 0, 0}));
     smaller("greater-though-shorter", NAME({9, 2, 0, 0}, {9, 2, 0, 0}), NAME({9, 2, 0, 1}));
-    smaller("last-of-eight", plain_name(8), NAME(plain, plain, plain, plain, plain, plain, plain, {9, 2, 0, 1}));
     smaller("m-below-ordinary", NAME(plain, low_marker, plain), NAME(plain, {1, 1, 0, -1}, plain));
     smaller("ordinary-below-M", NAME(plain, {65534, 65535, 4294967295, 2147483646}), NAME(plain, high_marker, plain));
     smaller("m-below-M", NAME(plain, low_marker, plain), NAME(plain, high_marker, plain));
+    neighbours_of_depth(OLD_DEPTH_LIMIT);
+    neighbours_of_depth(OLD_DEPTH_LIMIT + 1);
+    neighbours_of_depth(DEPTH_LIMIT);
 }
 
 static void faults_in_long_pages(void)
 {
     static const size_t places[] = {0, 127, SLOT_LIMIT - 2};
-    for (size_t i = 0; i < sizeof places / sizeof *places; i++) {
+    for (size_t i = 0; i < COUNT(places); i++) {
         rising_slots(SLOT_LIMIT);
         memcpy(slot_bytes(places[i] + 1) + HEAD_BYTES, slot_bytes(places[i]) + HEAD_BYTES, TUPLE_BYTES);
         keep(PAGE_NOT_RISING, "slot-%zu-is-named-twice-of-256", places[i]);
@@ -380,7 +445,7 @@ static void faults_in_long_pages(void)
     keep(PAGE_LAYOUT, "not-rising-and-last-slot-broken");
     rising_slots(SLOT_LIMIT);
     memcpy(slot_bytes(1), slot_bytes(0), SLOT_BYTES);
-    slot_bytes(SLOT_LIMIT - 1)[0] = 9;
+    slot_bytes(SLOT_LIMIT - 1)[0] = DEPTH_LIMIT + 1;
     keep(PAGE_LAYOUT, "not-rising-and-last-slot-broken-of-256");
     begin();
     add(7, NAME({9, 2, 0, -1}));
@@ -480,7 +545,7 @@ static void damage_number(void)
     if (!read_slot(slot_bytes(at), &slot))
         return;
     Tuple *t = &slot.name.tuples[random_below(slot.name.depth)];
-    int64_t edge = edges[random_below(sizeof edges / sizeof *edges)];
+    int64_t edge = edges[random_below(COUNT(edges))];
     switch (random_below(4)) {
     case 0: t->position = (uint16_t)(edge & 65535); break;
     case 1: t->node = (uint16_t)(edge & 65535); break;
@@ -520,7 +585,7 @@ static void random_pages(void)
         {"random-order", damage_order, 50},
         {"random-length", damage_length, 20}
     };
-    for (size_t kind = 0; kind < sizeof kinds / sizeof *kinds; kind++)
+    for (size_t kind = 0; kind < COUNT(kinds); kind++)
         for (int i = 0; i < kinds[kind].count; i++) {
             random_page(1 + random_below(i % 10 == 0 ? SLOT_LIMIT : 12));
             if (kinds[kind].damage != NULL)
@@ -538,13 +603,14 @@ int main(int argc, char **argv)
     directory = argv[1];
     sample();
     lengths();
+    old_pages();
     heads();
     fillers();
     markers();
     near_markers();
     ranges();
     line_numbers();
-    longest_listing();
+    longest_listings();
     neighbours();
     faults_in_long_pages();
     start_random(20260101);

@@ -122,36 +122,45 @@ void write_tuple(uint8_t *bytes, Tuple t)
 
 /* "depth 1..8, three zero bytes, line number (u32, any value, repeats allowed), then eight tuples of 12 bytes, the first
  * depth of them a name, the rest all zero" */
-bool read_slot(const uint8_t *bytes, Slot *slot)
+bool read_slot_of(size_t limit, const uint8_t *bytes, Slot *slot)
 {
     size_t depth = bytes[0];
-    if (depth < 1 || depth > DEPTH_LIMIT || !all_zero(bytes + 1, 3))
+    if (depth < 1 || depth > limit || !all_zero(bytes + 1, 3))
         return false;
     slot->line = from_bytes(bytes + 4, 4);
     slot->name.depth = depth;
     for (size_t i = 0; i < depth; i++)
         slot->name.tuples[i] = read_tuple(bytes + HEAD_BYTES + i * TUPLE_BYTES);
-    size_t used = HEAD_BYTES + depth * TUPLE_BYTES;
-    return is_name(&slot->name) && all_zero(bytes + used, SLOT_BYTES - used);
+    return is_name(&slot->name) && all_zero(bytes + SLOT_BYTES_OF(depth), (limit - depth) * TUPLE_BYTES);
 }
 
-void write_slot(uint8_t *bytes, const Slot *slot)
+bool read_slot(const uint8_t *bytes, Slot *slot)
 {
-    memset(bytes, 0, SLOT_BYTES);
+    return read_slot_of(DEPTH_LIMIT, bytes, slot);
+}
+
+void write_slot_of(size_t limit, uint8_t *bytes, const Slot *slot)
+{
+    memset(bytes, 0, SLOT_BYTES_OF(limit));
     bytes[0] = (uint8_t)slot->name.depth;
     to_bytes(bytes + 4, 4, slot->line);
     for (size_t i = 0; i < slot->name.depth; i++)
         write_tuple(bytes + HEAD_BYTES + i * TUPLE_BYTES, slot->name.tuples[i]);
 }
 
-/* "A length that is no whole number of slots or entries breaks the layout." */
-static bool keeps_layout(const uint8_t *bytes, size_t length)
+void write_slot(uint8_t *bytes, const Slot *slot)
 {
-    if (length % SLOT_BYTES != 0 || length > PAGE_BYTES)
+    write_slot_of(DEPTH_LIMIT, bytes, slot);
+}
+
+/* "A length that is no whole number of slots or entries breaks the layout." */
+static bool keeps_layout(size_t limit, const uint8_t *bytes, size_t length)
+{
+    if (length % SLOT_BYTES_OF(limit) != 0 || length > PAGE_BYTES_OF(limit))
         return false;
-    for (size_t at = 0; at < length; at += SLOT_BYTES) {
+    for (size_t at = 0; at < length; at += SLOT_BYTES_OF(limit)) {
         Slot slot;
-        if (!read_slot(bytes + at, &slot))
+        if (!read_slot_of(limit, bytes + at, &slot))
             return false;
     }
     return true;
@@ -165,6 +174,14 @@ bool names_rise(const Page *page)
     return true;
 }
 
+bool names_fit(const Page *page, size_t limit)
+{
+    for (size_t i = 0; i < page->count; i++)
+        if (page->slots[i].name.depth > limit)
+            return false;
+    return true;
+}
+
 /* "a page (its order apart) or given slot breaks its layout": a given slot is one slot long. */
 int check_slot(const uint8_t *bytes, size_t length)
 {
@@ -172,13 +189,18 @@ int check_slot(const uint8_t *bytes, size_t length)
     return length == SLOT_BYTES && read_slot(bytes, &slot) ? ACCEPTED : PAGE_LAYOUT;
 }
 
-int check_page(const uint8_t *bytes, size_t length)
+int check_page_of(size_t limit, const uint8_t *bytes, size_t length)
 {
-    if (!keeps_layout(bytes, length))
+    if (!keeps_layout(limit, bytes, length))
         return PAGE_LAYOUT;
     Page page;
-    read_page(bytes, length, &page);
+    read_page_of(limit, bytes, length, &page);
     return names_rise(&page) ? ACCEPTED : PAGE_NOT_RISING;
+}
+
+int check_page(const uint8_t *bytes, size_t length)
+{
+    return check_page_of(DEPTH_LIMIT, bytes, length);
 }
 
 /* "A log is a page of 1..256 slots whose line numbers are 0." */
@@ -195,11 +217,16 @@ int check_log(const uint8_t *bytes, size_t length)
     return ACCEPTED;
 }
 
+void read_page_of(size_t limit, const uint8_t *bytes, size_t length, Page *page)
+{
+    page->count = length / SLOT_BYTES_OF(limit);
+    for (size_t i = 0; i < page->count; i++)
+        read_slot_of(limit, bytes + i * SLOT_BYTES_OF(limit), &page->slots[i]);
+}
+
 void read_page(const uint8_t *bytes, size_t length, Page *page)
 {
-    page->count = length / SLOT_BYTES;
-    for (size_t i = 0; i < page->count; i++)
-        read_slot(bytes + i * SLOT_BYTES, &page->slots[i]);
+    read_page_of(DEPTH_LIMIT, bytes, length, page);
 }
 
 Outcome refused(int answer)
@@ -208,12 +235,17 @@ Outcome refused(int answer)
     return outcome;
 }
 
-Outcome write_page(const Page *page, uint8_t *out, size_t room)
+Outcome write_page_of(size_t limit, const Page *page, uint8_t *out, size_t room)
 {
-    if (room < page->count * SLOT_BYTES)
+    if (room < page->count * SLOT_BYTES_OF(limit))
         return refused(OUTPUT_SHORT);
     for (size_t i = 0; i < page->count; i++)
-        write_slot(out + i * SLOT_BYTES, &page->slots[i]);
+        write_slot_of(limit, out + i * SLOT_BYTES_OF(limit), &page->slots[i]);
     Outcome outcome = {ACCEPTED, page->count};
     return outcome;
+}
+
+Outcome write_page(const Page *page, uint8_t *out, size_t room)
+{
+    return write_page_of(DEPTH_LIMIT, page, out, room);
 }

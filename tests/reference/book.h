@@ -1,6 +1,7 @@
 /*
- * Names, slots, pages and logs of a line book, in plain C: a second implementation of document 01 that the proved one is
- * held against. It is written from 01 alone; what stands in quotation marks is 01's.
+ * Names, slots, pages and logs of a line book, in plain C: a second implementation of document 01, with what document 02 has
+ * changed, that the proved one is held against. It is written from these alone; what stands in quotation marks is 01's, or
+ * 02's where that is said.
  */
 #ifndef TESTS_REFERENCE_BOOK_H
 #define TESTS_REFERENCE_BOOK_H
@@ -9,13 +10,17 @@
 #include <stddef.h>
 #include <stdint.h>
 
+/* A slot and a page of names of at most so many tuples; 02, P8: "16 tuples after the same first eight bytes". */
+#define SLOT_BYTES_OF(limit) (HEAD_BYTES + (limit) * TUPLE_BYTES)
+#define PAGE_BYTES_OF(limit) (SLOT_LIMIT * SLOT_BYTES_OF(limit))
+
 enum {
-    DEPTH_LIMIT = 8, /* "a row of at most eight tuples" */
+    DEPTH_LIMIT = 16, /* 02, P8: "Raise the depth limit to sixteen." Where 01 says eight, it is this. */
     TUPLE_BYTES = 12,
     HEAD_BYTES = 8, /* "depth 1..8, three zero bytes, line number" */
-    SLOT_BYTES = HEAD_BYTES + DEPTH_LIMIT * TUPLE_BYTES,
     SLOT_LIMIT = 256, /* "A page is 0..256 slots" */
-    PAGE_BYTES = SLOT_LIMIT * SLOT_BYTES,
+    SLOT_BYTES = SLOT_BYTES_OF(DEPTH_LIMIT), /* 02, P8: "A slot becomes 200 bytes" */
+    PAGE_BYTES = PAGE_BYTES_OF(DEPTH_LIMIT), /* 02, P8: "a page is at most 51,200 bytes" */
     LONGEST_ROW = DEPTH_LIMIT + 1 + DEPTH_LIMIT /* two names and a marker: no rule of 01 makes more */
 };
 
@@ -106,6 +111,9 @@ void write_slot(uint8_t *bytes, const Slot *slot);
 /* "strictly rising names" */
 bool names_rise(const Page *page);
 
+/* Whether no name has more than so many tuples: "6: some result needs more than eight tuples". */
+bool names_fit(const Page *page, size_t limit);
+
 /* ACCEPTED or PAGE_LAYOUT, of a slot that is given alone. */
 int check_slot(const uint8_t *bytes, size_t length);
 
@@ -120,6 +128,13 @@ void read_page(const uint8_t *bytes, size_t length, Page *page);
 
 /* "8: output shorter than the result"; otherwise writes all slots of the page, "and nothing after that". */
 Outcome write_page(const Page *page, uint8_t *out, size_t room);
+
+/* The same of slots of another limit, which is at most DEPTH_LIMIT. */
+bool read_slot_of(size_t limit, const uint8_t *bytes, Slot *slot);
+void write_slot_of(size_t limit, uint8_t *bytes, const Slot *slot);
+int check_page_of(size_t limit, const uint8_t *bytes, size_t length);
+void read_page_of(size_t limit, const uint8_t *bytes, size_t length, Page *page);
+Outcome write_page_of(size_t limit, const Page *page, uint8_t *out, size_t room);
 
 /* A refusal. */
 Outcome refused(int answer);

@@ -35,7 +35,8 @@ Outcome insert_slot(const uint8_t *page, size_t page_length, const uint8_t *slot
         return refused(NAME_PRESENT);
     if (old.count == SLOT_LIMIT)
         return refused(PAGE_FULL);
-    Page result = {0, {{0, {0, {{0, 0, 0, 0}}}}}};
+    Page result;
+    result.count = 0;
     size_t i = 0;
     while (i < old.count && compare_names(&old.slots[i].name, &given.name) < 0)
         result.slots[result.count++] = old.slots[i++];
@@ -56,7 +57,8 @@ Outcome remove_slot(const uint8_t *page, size_t page_length, const uint8_t *slot
         return refused(answer);
     if (!has_name(&old, &given.name))
         return refused(NAME_ABSENT);
-    Page result = {0, {{0, {0, {{0, 0, 0, 0}}}}}};
+    Page result;
+    result.count = 0;
     for (size_t i = 0; i < old.count; i++)
         if (compare_names(&old.slots[i].name, &given.name) != 0)
             result.slots[result.count++] = old.slots[i];

@@ -24,17 +24,22 @@ static void list_slot(const Slot *slot, FILE *out)
 }
 
 /* "A bad page gives only the line `refused 1` or `refused 2`; [..] Empty input gives the header." */
-void list_page(const uint8_t *bytes, size_t length, FILE *out)
+void list_page_of(size_t limit, const uint8_t *bytes, size_t length, FILE *out)
 {
-    int answer = check_page(bytes, length);
+    int answer = check_page_of(limit, bytes, length);
     if (answer != ACCEPTED) {
         fprintf(out, "refused %d\n", answer);
         return;
     }
     fputs("line depth name\n", out);
-    for (size_t at = 0; at < length; at += SLOT_BYTES) {
+    for (size_t at = 0; at < length; at += SLOT_BYTES_OF(limit)) {
         Slot slot;
-        read_slot(bytes + at, &slot);
+        read_slot_of(limit, bytes + at, &slot);
         list_slot(&slot, out);
     }
+}
+
+void list_page(const uint8_t *bytes, size_t length, FILE *out)
+{
+    list_page_of(DEPTH_LIMIT, bytes, length, out);
 }

@@ -9,4 +9,7 @@
 /* Writes what document 01 says for these bytes: the whole listing, or the line of a refusal. */
 void list_page(const uint8_t *bytes, size_t length, FILE *out);
 
+/* The same of a page with slots of another limit: see book.h. */
+void list_page_of(size_t limit, const uint8_t *bytes, size_t length, FILE *out);
+
 #endif

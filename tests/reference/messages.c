@@ -156,7 +156,8 @@ static const char *take_names(Rest *rest, Message *message)
 /* "in this order, nothing after". The numbers are asked about before the names, since a kind tells which fields come. */
 static const char *take_message(const uint8_t *bytes, size_t length, Message *message)
 {
-    memset(message, 0, sizeof *message);
+    memset(&message->numbers, 0, sizeof message->numbers);
+    message->names.count = 0;
     Rest rest = {bytes, length};
     const char *wrong = take_numbers(&rest, &message->numbers);
     if (wrong == NULL)

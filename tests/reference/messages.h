@@ -10,7 +10,9 @@ enum {
     KIND_BYTES = 1,
     PAIR_BYTES = 6, /* "node and sequence in 6 bytes" */
     LINE_BYTES = 4,
-    LONGEST_MESSAGE = 25366 /* "The longest is 25,366 bytes." */
+    NUMBERS_BYTES = 3 * FIELD_HEAD_BYTES + KIND_BYTES + 2 * PAIR_BYTES, /* what every message begins with */
+    LONGEST_NAME_FIELD = FIELD_HEAD_BYTES + DEPTH_LIMIT * TUPLE_BYTES,
+    LONGEST_MESSAGE = NUMBERS_BYTES + SLOT_LIMIT * LONGEST_NAME_FIELD /* 02, P8: "the longest message is 49,942 bytes" */
 };
 
 enum { KIND_TAG = 1, EPOCH_TAG = 2, AUTHOR_TAG = 3, NAME_TAG = 4, LINE_TAG = 5 };

@@ -172,15 +172,6 @@ static int read_renaming(const uint8_t *page, size_t page_length, const uint8_t 
     return ACCEPTED;
 }
 
-/* "6: some result needs more than eight tuples" */
-static bool all_fit(const Page *page)
-{
-    for (size_t i = 0; i < page->count; i++)
-        if (page->slots[i].name.depth > DEPTH_LIMIT)
-            return false;
-    return true;
-}
-
 /* "Line numbers travel with their names. Renaming and taking back read one page and write another, the same number of
  * slots in the same order"; "rename 1, 2, 3, 4, 5, 6, 8" */
 Outcome rename_page(const uint8_t *page, size_t page_length, const uint8_t *log, size_t log_length, uint16_t node,
@@ -195,7 +186,7 @@ Outcome rename_page(const uint8_t *page, size_t page_length, const uint8_t *log,
         return refused(NOT_FRESH);
     for (size_t i = 0; i < slots.count; i++)
         slots.slots[i].name = rename_name(&renaming, &slots.slots[i].name).name;
-    if (!all_fit(&slots))
+    if (!names_fit(&slots, DEPTH_LIMIT))
         return refused(TOO_DEEP);
     return write_page(&slots, out, room);
 }
@@ -211,7 +202,7 @@ Outcome take_page_back(const uint8_t *page, size_t page_length, const uint8_t *l
         return refused(answer);
     for (size_t i = 0; i < slots.count; i++)
         slots.slots[i].name = take_name_back(&renaming, &slots.slots[i].name).name;
-    if (!all_fit(&slots))
+    if (!names_fit(&slots, DEPTH_LIMIT))
         return refused(TOO_DEEP);
     if (!names_rise(&slots))
         return refused(BACK_NOT_RISING);

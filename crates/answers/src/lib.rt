@@ -15,7 +15,7 @@ pub enum Refusal {
     NoAuthor,
     // 5: rename not fresh.
     NotFresh,
-    // 6: some result needs more than eight tuples.
+    // 6: some result needs more tuples than a name has: sixteen, or in an old page eight.
     TooDeep,
     // 7: taken-back names not strictly rising.
     NotRisingBack,

@@ -77,7 +77,7 @@ fn rename_page(back: bool, page: &[u8], log: &[u8], by: Author, out: &mut [u8]) 
     page_renames::rename(page, log, by, out)
 }
 
-// One name by value; 6 where what it becomes has more than eight tuples.
+// One name by value; 6 where what it becomes has more than sixteen tuples.
 fn name_case(back: bool, x: Name, log: &[u8], by: Author) {
     if !pages::log_ok(log) {
         return;

@@ -1,6 +1,7 @@
 -- The example of a line added after the last logged one, by computation (`after-last`). Assumes nothing.
-use Rattle.slots.specs.Slots.{bytesOver, keepsOver, keepsSlot, slotBytes}
-use Rattle.pages.specs.Pages.{layoutOver, keepsLayout, isLog}
+use Prim.Native.Nat.{_*_}
+use Rattle.slots.specs.Slots.{slotSize, bytesOver, keepsOver}
+use Rattle.pages.specs.Pages.{layoutOver, isLog}
 use mathlib.Core.Path.{refl}
 use mathlib.Core.List.{[], _∷_, flatten}
 use Rattle.names.specs.Ordering.{compareTuples, compareRows, rising}
@@ -20,4 +21,4 @@ slot-octets = written-octets (line 21 added ∷ []) refl
 
 pub after-last : AfterLast
 unfolding compareTuples compareRows rising ordinaryFrom marker endsWell isName rename fresh takeBack caseAbove caseOf become over stripAbove backFrom backOf tupleAt tupleBytes keepsOver bytesOver layoutOver isLog insertOutcome renameOutcome takeBackOutcome flatten
-after-last = record { renames = refl; inserts = refl; run = inserted (renamed 416 4 refl) slot 520 5 slot-octets refl; takes-back = refl }
+after-last = record { renames = refl; inserts = refl; run = inserted (renamed (slotSize * 4) 4 refl) slot (slotSize * 5) 5 slot-octets refl; takes-back = refl }

@@ -2,7 +2,7 @@
 -- lines, again with no end marker, as often as you like. Taking the rename back then gives each surviving old line its old name,
 -- byte for byte, each surviving added line its place between the same neighbours, and strictly rising names. It is refused only
 -- where a name needs more than eight tuples or the output is too short. Where end markers are present, it is also refused when two
--- neighbouring names would come out equal or reversed."
+-- neighbouring names would come out equal or reversed." 02, P8: "Demand 3 says sixteen where it said eight".
 -- The demand as a statement, clause by clause, over 01's own rename, insert, remove and taking back (`Demand3`); and what its 7 is, of
 -- any page (`Seven`). They hold: proofs/Demand.antt, proofs/Seven.antt. specs/AfterLast.antt has an example. A line is a slot, as bytes.
 use Prim.Native.Nat.{ℕ, suc, _*_, _<_, _≤_}
@@ -131,7 +131,7 @@ module _ (log : Bytes) (author : Author) (edited : Bytes) (old added : List Byte
   pub data TakenBack (room : ℕ) (x : Outcome) : Type 0 where
     -- 0, with the count of the edited page's slots
     restored : x .answer ≡ Accepted (length (slotsOf edited)) → Restored (x .bytes) → TakenBack room x
-    -- "It is refused only where a name needs more than eight tuples": that of a surviving added line, since an old one's fits again
+    -- "It is refused only where a name needs more than eight tuples" (P8: sixteen): that of a surviving added line, since an old one's fits again
     tooDeep : x ≡ refuse TooDeep → (slot : Bytes) → In slot added → limit < length (takenBackAs log author slot) → TakenBack room x
     -- "or the output is too short"
     short : x ≡ refuse Short → room < slotSize * length (slotsOf edited) → TakenBack room x

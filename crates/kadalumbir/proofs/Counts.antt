@@ -1,6 +1,6 @@
 -- The count of every answer is far below 2³², so that it can be packed: `check-page-count` and the others, one for each call.
 -- Assumes nothing.
-use mathlib.Core.Path.{_≡_, refl}
+use mathlib.Core.Path.{_≡_}
 use mathlib.Core.List.{List, [], _∷_, _++_, map, flatten}
 use mathlib.Core.Bool.{Bool, true, false, cond, not, _&&_}
 use mathlib.Core.Option.{Option, none, some}
@@ -10,30 +10,32 @@ use borrow.Author.Tests.{ltb-true}
 use lib.Dec.{eqb, leb, ltb}
 use lib.ListN.{length, drop, length-map}
 use Rattle.names.specs.declared.Author.{Author}
-use Rattle.names.specs.Ordering.{Row, rising}
+use Rattle.names.specs.Ordering.{Row}
 use Rattle.names.specs.Names.{fits}
 use Rattle.name_renames.specs.Renaming.{rename, takeBack}
 use Rattle.numbers.proofs.Bools.{and-0, and-1}
 use Rattle.numbers.specs.Bytes.{Bytes}
 use Rattle.numbers.specs.Lists.{every}
-use Rattle.slots.specs.Slots.{Slot, slotSize, slotBytes, nameOf, slotOf, keepsSlot}
+use Rattle.slots.specs.Slots.{bytesOver, Slot, slotSize, slotBytes, nameOf, slotOf}
 use Rattle.answers.specs.declared.Answer.{Answer}
 use Rattle.answers.specs.declared.Answer.the-variants.{Accepted, Refused}
 use Rattle.answers.specs.declared.Refusal.{Refusal}
-use Rattle.answers.specs.declared.Refusal.the-variants.{BadLayout, NotRising, BadLog, NoAuthor, NotFresh, TooDeep, NotRisingBack, Short, Present, Absent, Full, NoNewName, BadTable, NoEpoch, Malformed, NoGap, Listed, TableFull}
+use Rattle.answers.specs.declared.Refusal.the-variants.{BadLayout, NotRising, BadLog, TooDeep, Short, Present, Absent, Full, NoNewName, BadTable, Malformed}
 use Rattle.answers.specs.Answers.{Outcome, Test, _else_, inOrder, check, countOf, refuse, accept, write}
 use Rattle.answers.specs.Laws.{Passed}
 use Rattle.answers.proofs.Refusals.{whichever}
 use Rattle.pages.specs.Pages.{maxSlots, slotsOf, namesOf, pieces, keepsLayout, rises, lineIsZero, isLog, checkPage, checkLog}
 use Rattle.pages.specs.Places.{has}
 use Rattle.pages.proofs.SlotBySlot.{length-slots}
-use Rattle.pages.proofs.RoundTrip.{laid}
+use Rattle.pages.proofs.RoundTrip.{laid-over, laid}
 use Rattle.edits.specs.Edits.{placed, without, editTests, insertOutcome, removeOutcome}
 use Rattle.edits.proofs.Books.{length-placed, length-without}
+use Rattle.old_pages.specs.OldPages.{oldLimit, oldSlotsOf, oldPieces, fromOldTests, toOldTests, fromOldOutcome, toOldOutcome}
+use Rattle.old_pages.proofs.Outcomes.{old-count}
 use Rattle.new_names.specs.NewNames.{nameBefore, nameAfter, newName, refuseName, answerName, gapTests, newNameOutcome}
 use Rattle.page_renames.specs.Renames.{carry, carried, openingTests, renameTests, takeBackTests, renameOutcome, takeBackOutcome}
 use Rattle.one_name.proofs.CheckedLog.{logged}
-use Rattle.epoch_tree.specs.Tables.{maxEntries, entriesOf, entryBytes, entryPieces, listed, keepsTable, added}
+use Rattle.epoch_tree.specs.Tables.{maxEntries, entriesOf, entryBytes, entryPieces, keepsTable, added}
 use Rattle.epoch_tree.specs.declared.Step.{Step}
 use Rattle.epoch_tree.specs.declared.Step.the-variants.{Stay, Up, Down}
 use Rattle.epochs.specs.declared.Next.{Next}
@@ -109,6 +111,20 @@ remove-count page slot room =
     let own = has (nameOf slot) (namesOf page) else Absent ∷ [] in
     after-tests (editTests page slot ++ own) (write (pieces l) room)
     (λ p. slots-count l room (let m = few page (p .0) in let n = length-without (nameOf slot) (slotsOf page) in omega arith))
+
+-- ── old pages ──
+
+pub from-old-count : (old : Bytes) (room : ℕ) → countOf (fromOldOutcome old room .answer) < 4294967296
+unfolding fromOldOutcome
+from-old-count old room =
+    after-tests (fromOldTests old) (write (pieces (oldSlotsOf old)) room)
+    (λ p. slots-count (oldSlotsOf old) room (let n = old-count old in let l = laid-over oldLimit old (p .0) .few in omega arith))
+
+pub to-old-count : (page : Bytes) (room : ℕ) → countOf (toOldOutcome page room .answer) < 4294967296
+unfolding toOldOutcome
+to-old-count page room =
+    after-tests (toOldTests page) (write (oldPieces (slotsOf page)) room)
+    (λ p. wrote (oldPieces (slotsOf page)) room (let l = few page (p .0) in let m = length-map (slotsOf page) (bytesOver oldLimit) in omega arith))
 
 -- ── new names ──
 

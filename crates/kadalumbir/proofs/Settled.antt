@@ -9,6 +9,8 @@ use Rattle.kadalumbir.proofs.kadalumbir_check_log.Reads as check-log
 use Rattle.kadalumbir.proofs.kadalumbir_check_epochs.Reads as check-epochs
 use Rattle.kadalumbir.proofs.kadalumbir_insert.Reads as insert
 use Rattle.kadalumbir.proofs.kadalumbir_remove.Reads as remove
+use Rattle.kadalumbir.proofs.kadalumbir_from_old.Reads as from-old
+use Rattle.kadalumbir.proofs.kadalumbir_to_old.Reads as to-old
 use Rattle.kadalumbir.proofs.kadalumbir_new_name.Reads as new-name
 use Rattle.kadalumbir.proofs.kadalumbir_rename.Reads as rename
 use Rattle.kadalumbir.proofs.kadalumbir_take_back.Reads as take-back
@@ -31,6 +33,12 @@ insert-settled κs a r s r' s' p q = (one (p .0) (q .0), one (p .1) (q .1))
 
 pub remove-settled : (κs : _) (a : _) (r : _) (s : _) (r' : _) (s' : _) → remove.Learnt κs a r s → remove.Learnt κs a r' s' → (r ≡ r') × (now (s .1 .1 .0) ≡ now (s' .1 .1 .0))
 remove-settled κs a r s r' s' p q = (one (p .0) (q .0), one (p .1) (q .1))
+
+pub from-old-settled : (κs : _) (a : _) (r : _) (s : _) (r' : _) (s' : _) → from-old.Learnt κs a r s → from-old.Learnt κs a r' s' → (r ≡ r') × (now (s .1 .0) ≡ now (s' .1 .0))
+from-old-settled κs a r s r' s' p q = (one (p .0) (q .0), one (p .1) (q .1))
+
+pub to-old-settled : (κs : _) (a : _) (r : _) (s : _) (r' : _) (s' : _) → to-old.Learnt κs a r s → to-old.Learnt κs a r' s' → (r ≡ r') × (now (s .1 .0) ≡ now (s' .1 .0))
+to-old-settled κs a r s r' s' p q = (one (p .0) (q .0), one (p .1) (q .1))
 
 pub new-name-settled : (κs : _) (a : _) (r : _) (s : _) (r' : _) (s' : _) → new-name.Learnt κs a r s → new-name.Learnt κs a r' s' → (r ≡ r') × (now (s .1 .1 .1 .1 .0) ≡ now (s' .1 .1 .1 .1 .0))
 new-name-settled κs a r s r' s' p q = (one (p .0) (q .0), one (p .1) (q .1))

@@ -7,6 +7,7 @@ ghost use Rattle.names.specs.Names.{rowOf};
 ghost use Rattle.answers.specs.Answers.{countOf, leaves};
 ghost use Rattle.pages.specs.Pages.{checkPage, checkLog};
 ghost use Rattle.edits.specs.Edits.{insertOutcome, removeOutcome};
+ghost use Rattle.old_pages.specs.OldPages.{fromOldOutcome, toOldOutcome};
 ghost use Rattle.page_renames.specs.Renames.{renameOutcome, takeBackOutcome};
 ghost use Rattle.epochs.specs.Calls.{checkTable, numberIn, indexIn, answerOf, nextStepOutcome, addOutcome};
 ghost use Rattle.messages.specs.Calls.{readOutcome, numbersRead, writeOutcome};
@@ -65,6 +66,24 @@ pub extern "C" fn kadalumbir_remove(page: &[u8], slot: &[u8], out: &mut [u8]) ->
     ensures { λ r. ⌜ now (out .exit) ≡ leaves (removeOutcome (now (page .entry)) (now (slot .entry)) (length (now (out .entry)))) (now (out .entry)) ⌝ }
 {
     pack(edits::remove(page, slot, out))
+}
+
+// ── old pages ──
+
+#[no_mangle]
+pub extern "C" fn kadalumbir_from_old(old: &[u8], out: &mut [u8]) -> u64
+    ensures { λ r. ⌜ r ≡ packed (fromOldOutcome (now (old .entry)) (length (now (out .entry))) .answer) ⌝ }
+    ensures { λ r. ⌜ now (out .exit) ≡ leaves (fromOldOutcome (now (old .entry)) (length (now (out .entry)))) (now (out .entry)) ⌝ }
+{
+    pack(old_pages::from_old(old, out))
+}
+
+#[no_mangle]
+pub extern "C" fn kadalumbir_to_old(page: &[u8], out: &mut [u8]) -> u64
+    ensures { λ r. ⌜ r ≡ packed (toOldOutcome (now (page .entry)) (length (now (out .entry))) .answer) ⌝ }
+    ensures { λ r. ⌜ now (out .exit) ≡ leaves (toOldOutcome (now (page .entry)) (length (now (out .entry)))) (now (out .entry)) ⌝ }
+{
+    pack(old_pages::to_old(page, out))
 }
 
 // ── new names ──

@@ -6,7 +6,7 @@ use listing_text::TEXT;
 
 fn main() {
     // "with buffers set to zero for a whole page"
-    let mut page = [0u8; 26624];
+    let mut page = [0u8; 51200];
     let n = io::read_full(STDIN_FILENO, &mut page);
     // One byte more tells whether the input goes on after a whole page.
     let mut rest = [0u8; 1];

@@ -35,7 +35,7 @@ pub record Cases : Type 0 where
   pub refused-1 : (page rest : Bytes) → checkInput page rest ≡ Refused BadLayout → listing page rest ≡ ascii "refused 1\n"
   pub refused-2 : (page rest : Bytes) → checkInput page rest ≡ Refused NotRising → listing page rest ≡ ascii "refused 2\n"
 
--- "26,624 bytes at most"
+-- 02, P8: "a page is at most 51,200 bytes"
 abbrev pub pageSize : ℕ
 pageSize = slotSize * maxSlots
 

@@ -70,7 +70,8 @@ abbrev pub answerText : Answer → Bytes → Bytes
 answerText (Accepted n) page = bookText (slotsOf page)
 answerText (Refused r) page = refusedText (refusalNumber r)
 
--- "input above 26,624 bytes is `refused 1`": rest is what comes after as many bytes as the largest page has
+-- "input above 26,624 bytes is `refused 1`" (02, P8: "a page is at most 51,200 bytes"): rest is what comes after as many bytes as the
+-- largest page has
 abbrev pub checkInput : Bytes → Bytes → Answer
 checkInput page rest = inOrder (eqb (length rest) 0 else BadLayout ∷ []) Refused (checkPage page)
 

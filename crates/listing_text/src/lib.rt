@@ -27,12 +27,12 @@ const OFFSET_TEXT: usize = 1 + NUMBER_TEXT;
 // Of a tuple: three numbers with a `.` after each, and the offset; 44.
 const TUPLE_TEXT: usize = 3 * (NUMBER_TEXT + 1) + OFFSET_TEXT;
 
-// Of a line: two numbers with a space after each, and LIMIT tuples, each with a `/` or, the last, the newline after it; 382.
+// Of a line: two numbers with a space after each, and LIMIT tuples, each with a `/` or, the last, the newline after it; 742.
 const LINE: usize = 2 * (NUMBER_TEXT + 1) + LIMIT * (TUPLE_TEXT + 1);
 
 const HEADER_TEXT: usize = 16;
 
-// Of a listing: the header and a line for each slot; 97,808. A refusal takes less.
+// Of a listing: the header and a line for each slot; 189,968. A refusal takes less.
 pub const TEXT: usize = HEADER_TEXT + SLOTS * LINE;
 
 // "It writes the fixed line `line depth name`"
@@ -181,7 +181,7 @@ fn put_refused(out: &mut [u8], p: usize, n: u32) -> usize
     put_number(out, q, n, b'\n')
 }
 
-// "input above 26,624 bytes is `refused 1`"
+// "input above 26,624 bytes is `refused 1`" (02, P8: "a page is at most 51,200 bytes")
 fn check_input(page: &[u8], rest: &[u8]) -> Answer
     ensures { λ r. ⌜ r ≡ checkInput (now (page .entry)) (now (rest .entry)) ⌝ }
 {

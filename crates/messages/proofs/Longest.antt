@@ -1,4 +1,4 @@
--- "The longest is 25,366 bytes": no message is longer, written (`no-longer`) or read (`no-longer-read`), and a rename of as many names as
+-- 02, P8: "the longest message is 49,942 bytes": no message is longer, written (`no-longer`) or read (`no-longer-read`), and a rename of as many names as
 -- there can be, of as many tuples each, is as long (`full-message`, `full-length`). Assumes nothing.
 use mathlib.Core.Path.{_≡_, refl, ap, _∙_}
 use mathlib.Core.List.{List, [], _∷_, map, flatten}
@@ -27,7 +27,7 @@ use Rattle.messages.proofs.TestsPassed.{Good, good, parts-message}
 use Rattle.messages.proofs.ReadBack.{split}
 use Rattle.messages.proofs.WriteBack.{bytes-back}
 
-pub longest-is : longest ≡ 25366
+pub longest-is : longest ≡ 49942
 longest-is = refl
 
 -- ── lengths ──

@@ -36,9 +36,9 @@ pub record InverseLaws : Type 0 where
   pub one-writing : (s t : Bytes) → Octets s → Octets t → keepsMessage s ≡ true → keepsMessage t ≡ true
       → partsIn s ≡ partsIn t → s ≡ t
 
--- "The longest is 25,366 bytes." The number is that of a limit of eight tuples.
+-- 02, P8: "the size cases of 01 move with it: the longest message is 49,942 bytes"
 pub record LongestLaws : Type 0 where
-  pub longest-is : longest ≡ 25366
+  pub longest-is : longest ≡ 49942
   -- no message is longer
   pub no-longer : (s : Bytes) → Octets s → keepsMessage s ≡ true → length s ≤ longest
   -- and one is as long

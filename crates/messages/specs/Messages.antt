@@ -73,7 +73,7 @@ isEpoch e = leb (e .node) 65535 && leb (e .sequence) 4294967295 && (leb 1 (e .no
 abbrev pub isAuthor : Author → Bool
 isAuthor a = within 1 65535 (a .node) && leb (a .sequence) 4294967295
 
--- a name, which has "at most eight tuples"
+-- a name, which has "at most eight tuples" (02, P8: sixteen)
 abbrev pub nameFits : Row → Bool
 nameFits a = isName a && fits a
 
@@ -188,6 +188,6 @@ framed s =
 unfoldable pub keepsMessage : Bytes → Bool
 keepsMessage s = framed s && isMessage (partsIn s)
 
--- "The longest is 25,366 bytes": a rename of 256 names of eight tuples
+-- "The longest is 25,366 bytes" (02, P8: 49,942): a rename of as many names as a page has, each of as many tuples as a name has
 abbrev pub longest : ℕ
 longest = namesPlace + maxSlots * (fieldHead + tupleSize * limit)

@@ -12,9 +12,10 @@ use Rattle.names.specs.declared.Name.{Name}
 use Rattle.names.specs.declared.Joined.{Joined}
 use Rattle.names.specs.Ordering.{Row, compareTuples, isSame}
 
--- "A name is a row of at most eight tuples": the limit is asked apart from the rest, since a result may pass it.
+-- "A name is a row of at most eight tuples"; 02, P8: "Raise the depth limit to sixteen." The limit is asked apart from the rest,
+-- since a result may pass it.
 abbrev pub limit : ℕ
-limit = 8
+limit = 16
 
 abbrev pub fits : Row → Bool
 fits a = leb (length a) limit

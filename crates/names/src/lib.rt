@@ -5,8 +5,8 @@ ghost use lib.ListN.{length};
 ghost use Rattle.names.specs.Names.{limit, rowOf};
 ghost use Rattle.names.specs.Ordering.{isLess, isSame, compareℕ, compareℤ, then, compareTuples, compareRows};
 
-// The most tuples that a name has.
-pub const LIMIT: usize = 8;
+// The most tuples that a name has. 02, P8: "Raise the depth limit to sixteen."
+pub const LIMIT: usize = 16;
 
 pub struct Tuple {
     pub position: u16,
@@ -15,8 +15,8 @@ pub struct Tuple {
     pub offset: i32,
 }
 
-// "A name is a row of at most eight tuples, passed as a whole": the first depth of the tuples are the name's. A depth
-// above LIMIT counts as LIMIT.
+// "A name is a row of at most eight tuples, passed as a whole" (02, P8: sixteen): the first depth of the tuples are the name's. A
+// depth above LIMIT counts as LIMIT.
 pub struct Name {
     pub depth: usize,
     pub tuples: [Tuple; LIMIT],

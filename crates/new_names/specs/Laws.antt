@@ -23,7 +23,7 @@ abbrev pub Between : Row → Row → Row → Type 0
 Between a b c = (a <ⁿ c) × Under c b
 
 pub record InGap (page : Bytes) (gap : ℕ) (c : Row) : Type 0 where
-  -- it is a name, of at most eight tuples
+  -- it is a name, of at most `limit` tuples
   pub name : isName c ≡ true
   pub short : fits c ≡ true
   -- it lies strictly between its neighbours

@@ -80,7 +80,7 @@ pub record Named : Type 0 where
 abbrev pub refuseName : Refusal → Named
 refuseName r = record { answer = Refused r; name = [] }
 
--- "12: no new name by the rule", "6: some result needs more than eight tuples"; the count of a new name is 0
+-- "12: no new name by the rule", "6: some result needs more than eight tuples" (02, P8: sixteen); the count of a new name is 0
 abbrev pub answerName : Option Row → Named
 answerName none = refuseName NoNewName
 answerName (some c) = inOrder (fits c else TooDeep ∷ []) refuseName (record { answer = Accepted 0; name = c })

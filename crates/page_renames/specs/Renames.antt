@@ -27,7 +27,7 @@ carried f l = map (carry f) l
 abbrev pub areFresh : Author → Bytes → Bytes → Bool
 areFresh author page log = every (fresh author) (namesOf page) && every (fresh author) (namesOf log)
 
--- no "result needs more than eight tuples"
+-- no "result needs more than eight tuples" (02, P8: sixteen)
 abbrev pub allFit : (Row → Row) → Bytes → Bool
 allFit f page = every fits (map f (namesOf page))
 

@@ -1,6 +1,7 @@
 -- Slots: document 01, "Pages, logs, epochs". "A slot is 104 bytes: depth 1..8, three zero bytes, line number (u32, any
--- value, repeats allowed), then eight tuples of 12 bytes, the first depth of them a name, the rest all zero." The layout is said
--- of slots with room for any number of tuples; a slot is one with room for `limit`.
+-- value, repeats allowed), then eight tuples of 12 bytes, the first depth of them a name, the rest all zero." 02, P8: "A slot becomes
+-- 200 bytes, 16 tuples after the same first eight bytes". The layout is said of slots with room for any number of tuples; a slot is
+-- one with room for `limit`, and 01's own, of eight, is an old one (`old_pages`).
 use Prim.Native.Nat.{ℕ, _+_, _-_, _*_}
 use mathlib.Core.List.{[], _∷_, _++_}
 use mathlib.Core.Bool.{Bool, _&&_}
@@ -58,7 +59,7 @@ module _ (room : ℕ) where
 
 -- ── a slot ──
 
--- "A slot is 104 bytes"
+-- "A slot becomes 200 bytes"
 abbrev pub slotSize : ℕ
 slotSize = sizeOver limit
 

@@ -1,0 +1,4 @@
+pub mod ConvertedSlots
+pub mod Outcomes
+pub mod Conversions
+pub mod Settled

@@ -1,0 +1,2 @@
+pub mod OldPages
+pub mod Laws
