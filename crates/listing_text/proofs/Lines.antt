@@ -2,14 +2,13 @@
 use mathlib.Core.Path.{_≡_, refl, _∙_, sym, ap}
 use mathlib.Core.List.{List, [], _∷_, _++_, append-assoc, append-nil, map}
 use mathlib.Core.Bool.{Bool, true, false}
-use Prim.Native.Nat.{ℕ, zero, suc, _+_, _*_, _<_, _≤_}
-use native.Mathlib.Nat.{not-suc-le-zero, le-of-suc-le-suc}
+use Prim.Native.Nat.{ℕ, _+_, _*_, _<_, _≤_}
 use native.Mathlib.Numerals.{add-one}
 use native.Mathlib.Omega.{arith}
 use lib.ListN.{length, take, getD, length-map, List·getD-map}
 use lib.Seq.{take-suc}
 use lib.Dec.{eqb}
-use Rattle.numbers.proofs.Bools.{and-0, and-1}
+use Rattle.names.specs.Names.{limit}
 use Rattle.numbers.specs.Bytes.{Bytes}
 use Rattle.numbers.specs.Lists.{every}
 use Rattle.slots.specs.Slots.{Slot, slotSize, slotOf, depthOf, keepsSlot}
@@ -20,7 +19,7 @@ use Rattle.answers.specs.declared.Answer.{Answer}
 use Rattle.answers.specs.declared.Answer.the-variants.{Accepted, Refused}
 use Rattle.answers.specs.Answers.{Test, _else_, ask, inOrder, numberOf}
 use Rattle.pages.specs.Pages.{parts, slotsOf, keepsLayout, rises, checkPage}
-use Rattle.pages.proofs.SlotBySlot.{length-parts, lent, lent-part}
+use Rattle.pages.proofs.SlotBySlot.{length-parts, lent, lent-part, lent-keeps}
 use Rattle.answers.proofs.Outcomes.{no-answer}
 use Rattle.answers.specs.Laws.{Passed}
 use Rattle.answers.proofs.Refusals.{reached}
@@ -29,11 +28,6 @@ use Rattle.listing_text.specs.Listing.{lineText, linesText, bookText, re
 lines-append : (a b : List Slot) → linesText (a ++ b) ≡ linesText a ++ linesText b
 lines-append [] b = refl
 lines-append (x ∷ a) b = ap (λ (l : Bytes). lineText x ++ l) (lines-append a b) ∙ sym (append-assoc (lineText x) (linesText a) (linesText b))
-
-every-get : {A : Type 0} (f : A → Bool) (l : List A) (k : ℕ) (d : A) → every f l ≡ true → k < length l → f (getD l k d) ≡ true
-every-get f [] k d e h = absurd (not-suc-le-zero h)
-every-get f (x ∷ l) zero d e h = and-0 (f x) (every f l) e
-every-get f (x ∷ l) (suc k) d e h = every-get f l k d (and-1 (f x) (every f l) e) (le-of-suc-le-suc h)
 
 module _ (s : Bytes) (n k : ℕ) (h : k < n) where
   -- one line more, that of the slot lent
@@ -47,10 +41,7 @@ module _ (s : Bytes) (n k : ℕ) (h : k < n) where
 
   -- a slot that keeps the layout has a name
   pub deep : every keepsSlot (parts n s) ≡ true → 1 ≤ depthOf (lent s (slotSize * k))
-  deep e =
-      let g : k < length (parts n s) = rw length-parts h in
-      let v = every-get keepsSlot (parts n s) k [] e g in
-      kept (lent s (slotSize * k)) (ap keepsSlot (lent-part s n k (slotSize * k) refl h) ∙ v) .deep
+  deep e = kept (lent s (slotSize * k)) (lent-keeps limit s n k h e) .deep
 
 -- ── what is answered ──
 

@@ -35,7 +35,7 @@ longest-is = refl
 pub name-length : (a : Row) → length (nameField a) ≡ fieldHead + tupleSize * length a
 name-length a = field-length nameTag (rowBytes a) ∙ ap (λ (n : ℕ). fieldHead + n) (row-length a)
 
-pub names-cons : (a : Row) (l : List Row)
+names-cons : (a : Row) (l : List Row)
     → length (flatten (map nameField (a ∷ l))) ≡ fieldHead + tupleSize * length a + length (flatten (map nameField l))
 names-cons a l =
     ap length (flat (nameField a) (map nameField l))

@@ -17,8 +17,12 @@ use Rattle.names.specs.Ordering.{Row, compareTuples, isSame}
 abbrev pub limit : ℕ
 limit = 16
 
+-- a row of at most so many tuples, and of at most as many as a name has
+abbrev pub fitsOver : ℕ → Row → Bool
+fitsOver room a = leb (length a) room
+
 abbrev pub fits : Row → Bool
-fits a = leb (length a) limit
+fits a = fitsOver limit a
 
 -- the row of a name as the code passes it: the first `depth` tuples of its array
 abbrev pub rowOf : Name → Row

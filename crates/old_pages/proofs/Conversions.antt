@@ -17,7 +17,6 @@ use Rattle.numbers.specs.Bytes.{Bytes, Octets, isZero}
 use Rattle.numbers.specs.Lists.{every}
 use Rattle.numbers.proofs.Bools.{and-0, and-1}
 use Rattle.numbers.proofs.Every.{every-each}
-use Rattle.numbers.proofs.Parts.{length-parts, getD-parts}
 use Rattle.slots.specs.Tuples.{tuplesAt, tupleSize}
 use Rattle.slots.specs.Slots.{headSize, bytesOver, isSlotOver, Slot, slotSize, depthOf, nameOf, slotOf, keepsSlot, isSlot}
 use Rattle.slots.proofs.RoundTrip.{Kept, kept}
@@ -25,7 +24,7 @@ use Rattle.slots.proofs.TuplesInBytes.{length-tuplesAt}
 use Rattle.pages.specs.Pages.{namesOver, maxSlots, partsOf, slotsOf, nameIn, namesOf, pieces, keepsLayout, rises}
 use Rattle.pages.specs.Laws.{IsPage}
 use Rattle.pages.proofs.RoundTrip.{laid-over, slots-over, page-back-over, slots-back-over, written-page-over, laid, slots-back, written-page}
-use Rattle.pages.proofs.SlotBySlot.{length-slots}
+use Rattle.pages.proofs.SlotBySlot.{lent, lent-keeps, length-slots}
 use Rattle.pages.proofs.PageOutcomes.{page-again}
 use Rattle.answers.specs.declared.Answer.the-variants.{Accepted, Refused}
 use Rattle.answers.specs.declared.Refusal.the-variants.{TooDeep}
@@ -187,17 +186,15 @@ module _ (s : Bytes) (k : Octets s) (e : keepsOld s ≡ true) (f : keepsLayout s
   two = omega (arith, laid s f .whole, laid-over oldLimit s e .whole)
 
   abbrev slot : Bytes
-  slot = take slotSize (drop (slotSize * 0) s)
+  slot = lent s (slotSize * 0)
 
   slot-kept : Kept slot
-  slot-kept =
-      let l : 0 < length (partsOf s) = rw length-parts some in
-      kept slot (ap keepsSlot (sym (getD-parts slotSize (length s / slotSize) s 0 some)) ∙ every-each keepsSlot (partsOf s) 0 [] l (laid s f .good))
+  slot-kept = kept slot (lent-keeps limit s (length s / slotSize) 0 some (laid s f .good))
 
   shallow : depthOf slot ≤ oldLimit
   shallow =
       let old = old-kept s k e 0 (omega (arith, two)) .fit in
-      let a = byte-in slotSize (slotSize * 0) s 0 (omega arith) in
+      let a = byte-in (slotSize * 0 + slotSize - slotSize * 0) (slotSize * 0) s 0 (omega arith) in
       let b = byte-in (oldSize * 0 + oldSize - oldSize * 0) (oldSize * 0) s 0 (omega arith) in
       omega arith
 
@@ -207,7 +204,7 @@ module _ (s : Bytes) (k : Octets s) (e : keepsOld s ≡ true) (f : keepsLayout s
       let j : p + (oldSize - p) ≡ oldSize = omega (arith, shallow) in
       let within : oldSize - p < length (drop p slot) = simp length-drop (omega (arith, slot-kept .long)) in
       let zero-there = eqb-true (getD (drop p slot) (oldSize - p) 0) 0 (every-each isZero (drop p slot) (oldSize - p) 0 within (slot-kept .rest)) in
-      sym (byte-in slotSize (slotSize * 0) s oldSize (omega arith))
+      sym (byte-in (slotSize * 0 + slotSize - slotSize * 0) (slotSize * 0) s oldSize (omega arith))
       ∙ sym (getD-drop p slot (oldSize - p) 0 ∙ ap (λ (n : ℕ). getD slot n 0) j)
       ∙ zero-there
 

@@ -15,13 +15,13 @@ use Rattle.numbers.specs.Lists.{every}
 use Rattle.numbers.proofs.Bools.{and-1}
 use Rattle.numbers.proofs.Every.{every-each}
 use Rattle.numbers.proofs.Octets.{octets-take, octets-drop}
-use Rattle.numbers.proofs.Parts.{length-parts, getD-parts}
+use Rattle.numbers.proofs.Parts.{length-parts}
 use Rattle.slots.specs.Tuples.{tupleSize}
-use Rattle.slots.specs.Slots.{keepsOver, bytesOver, slotOver, nameOver, lineOf, slotSize, nameOf, slotOf, slotBytes, keepsSlot}
+use Rattle.slots.specs.Slots.{bytesOver, slotOver, nameOver, lineOf, slotSize, nameOf, slotOf, slotBytes}
 use Rattle.slots.proofs.RoundTrip.{KeptOver, kept-over, back-over, decoded-over, length-over, wider, kept, bytes-back, slot-length}
 use Rattle.pages.specs.Pages.{partsOver, partsOf, slotsOf, namesOf, pieces, keepsLayout}
 use Rattle.pages.proofs.RoundTrip.{laid-over, laid}
-use Rattle.pages.proofs.SlotBySlot.{lentOver, lent, lent-part, lent-name, length-names}
+use Rattle.pages.proofs.SlotBySlot.{lentOver, part-over, lent-keeps, lent, lent-part, lent-name, length-names}
 use Rattle.old_pages.specs.OldPages.{oldLimit, oldSize, keepsOld, oldSlotsOf, oldPieces, fitsOld}
 
 -- the zeros of the tuples that a slot has and an old one has not
@@ -36,12 +36,10 @@ oldLent old i = lentOver oldLimit old (oldSize * i)
 
 module _ (old : Bytes) (k : Octets old) (e : keepsOld old ≡ true) (i : ℕ) (h : i < length old / oldSize) where
   old-part : oldLent old i ≡ getD (partsOver oldLimit old) i []
-  old-part = let q : oldSize * i + oldSize - oldSize * i ≡ oldSize = omega arith in rw q (sym (getD-parts oldSize (length old / oldSize) old i h))
+  old-part = part-over oldLimit old (length old / oldSize) i (oldSize * i) refl h
 
   pub old-kept : KeptOver oldLimit (oldLent old i)
-  old-kept =
-      let l : i < length (partsOver oldLimit old) = rw length-parts h in
-      kept-over oldLimit (oldLent old i) (ap (keepsOver oldLimit) old-part ∙ every-each (keepsOver oldLimit) (partsOver oldLimit old) i [] l (laid-over oldLimit old e .good))
+  old-kept = kept-over oldLimit (oldLent old i) (lent-keeps oldLimit old (length old / oldSize) i h (laid-over oldLimit old e .good))
 
   pub lent-long : length (oldLent old i) ≡ oldSize
   lent-long = old-kept .long
@@ -87,8 +85,7 @@ module _ (page : Bytes) (k : Octets page) (e : keepsLayout page ≡ true) (t : e
 
   part-back : slotBytes (slotOf part) ≡ part
   part-back =
-      let l : i < length (partsOf page) = rw length-parts h in
-      let v = kept part (ap keepsSlot part-is ∙ every-each keepsSlot (partsOf page) i [] l (laid page e .good)) in
+      let v = kept part (lent-keeps limit page (length page / slotSize) i h (laid page e .good)) in
       bytes-back part (octets-take (slotSize * i + slotSize - slotSize * i) (drop (slotSize * i) page) (octets-drop (slotSize * i) page k)) v
 
   part-fits : length (nameOf part) ≤ oldLimit

@@ -5,9 +5,8 @@
 use Prim.Native.Nat.{ℕ}
 use mathlib.Core.List.{List, [], _∷_}
 use mathlib.Core.Bool.{Bool}
-use lib.ListN.{length}
-use lib.Dec.{leb}
 use Rattle.names.specs.Ordering.{Row}
+use Rattle.names.specs.Names.{fitsOver}
 use Rattle.numbers.specs.Bytes.{Bytes}
 use Rattle.numbers.specs.Lists.{every}
 use Rattle.slots.specs.Slots.{sizeOver, Slot}
@@ -25,10 +24,11 @@ oldLimit = 8
 abbrev pub oldSize : ℕ
 oldSize = sizeOver oldLimit
 
--- 01: "A page is 0..256 slots with strictly rising names, 26,624 bytes at most"
+-- 01: "A page is 0..256 slots .. 26,624 bytes at most"
 abbrev pub keepsOld : Bytes → Bool
 keepsOld = layoutOver oldLimit
 
+-- 01: "with strictly rising names"
 abbrev pub oldRises : Bytes → Bool
 oldRises s = risesOver oldLimit s
 
@@ -41,7 +41,7 @@ oldPieces l = piecesOver oldLimit l
 
 -- "every depth is at most eight"
 abbrev pub fitsOld : Row → Bool
-fitsOld a = leb (length a) oldLimit
+fitsOld a = fitsOver oldLimit a
 
 -- ── the calls; room is the length of the output ──
 

@@ -1,11 +1,10 @@
 -- A page whose names go through a function f, be it `rename author log` or `takeBack author log`: where the results are names that
 -- fit, slots are written (`carried-good`) and read back as they were written (`carried-slots`, `carried-parts`); where the results
 -- rise too, it is a page (`carried-page`). A function that undoes f on the page's names gives the slots back (`carried-again`). Assumes nothing.
-use mathlib.Core.Path.{_≡_, refl, _∙_, sym, ap}
+use mathlib.Core.Path.{_≡_, refl, _∙_, sym}
 use mathlib.Core.List.{List, [], _∷_, map, map-map, flatten}
 use mathlib.Core.Bool.{Bool, true, _&&_}
-use Prim.Native.Nat.{ℕ, zero, suc, _*_, _/_, _<_, _≤_}
-use native.Mathlib.Nat.{not-suc-le-zero, le-of-suc-le-suc}
+use Prim.Native.Nat.{ℕ, suc, _<_, _≤_}
 use native.Mathlib.Omega.{arith}
 use lib.Dec.{leb}
 use lib.ListN.{length, getD, length-map}
@@ -16,9 +15,9 @@ use Rattle.names.proofs.Validity.{Valid, valid-name}
 use Rattle.name_renames.proofs.Lists.{All, nil, cons}
 use Rattle.numbers.specs.Bytes.{Bytes, Octets}
 use Rattle.numbers.specs.Lists.{every}
-use Rattle.slots.specs.Slots.{Slot, slotSize, keepsSlot, isSlot}
-use Rattle.pages.specs.Pages.{maxSlots, parts, partsOf, slotsOf, nameIn, namesOf, pieces, keepsLayout, rises}
-use Rattle.pages.proofs.SlotBySlot.{length-parts, length-slots, lent, lent-part}
+use Rattle.slots.specs.Slots.{Slot, isSlot}
+use Rattle.pages.specs.Pages.{maxSlots, partsOf, slotsOf, nameIn, namesOf, pieces, keepsLayout, rises}
+use Rattle.pages.proofs.SlotBySlot.{length-slots}
 use Rattle.pages.proofs.RoundTrip.{laid, page-names, page-slots, parts-are, slots-back, written-page}
 use Rattle.page_renames.specs.Renames.{carry, carried, allFit}
 
@@ -29,20 +28,7 @@ pub all-every : {A : Type 0} {P : A → Type 0} (f : A → Bool) → ((x : A) �
 all-every f h [] e = nil
 all-every f h (x ∷ l) e = cons (h x (and-0 (f x) (every f l) e)) (all-every f h l (and-1 (f x) (every f l) e))
 
--- what holds of each of a list holds of the k-th
-pub each : {A : Type 0} {P : A → Type 0} (d : A) (k : ℕ) {l : List A} → All P l → k < length l → P (getD l k d)
-each d k nil h = absurd (not-suc-le-zero h)
-each d zero (cons v vs) h = v
-each d (suc k) (cons v vs) h = each d k vs (le-of-suc-le-suc h)
-
--- a slot of a page, as the code lends it
-pub lent-keeps : (s : Bytes) (k : ℕ) → keepsLayout s ≡ true → k < length s / slotSize → keepsSlot (lent s (slotSize * k)) ≡ true
-lent-keeps s k e h =
-    let n = length s / slotSize in
-    let l : k < length (parts n s) = rw length-parts h in
-    ap keepsSlot (lent-part s n k (slotSize * k) refl h) ∙ each [] k (all-every keepsSlot (λ b i. i) (parts n s) (laid s e .good)) l
-
--- and what holds of every k-th holds of each
+-- what holds of every k-th holds of each
 all-index : {A : Type 0} {P : A → Type 0} (d : A) (l : List A) → ((k : ℕ) → k < length l → P (getD l k d)) → All P l
 all-index d [] f = nil
 all-index d (x ∷ l) f = cons (f 0 (omega arith)) (all-index d l (λ k h. f (suc k) (omega arith)))

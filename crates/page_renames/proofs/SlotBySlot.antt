@@ -12,12 +12,12 @@ use Rattle.names.specs.Ordering.{Row}
 use Rattle.names.specs.Names.{limit, rowOf, fits, fitted, Gives}
 use Rattle.numbers.specs.Bytes.{Bytes, put}
 use Rattle.slots.specs.Slots.{Slot, slotSize, nameOf, lineOf, slotOf, slotBytes}
+use Rattle.numbers.proofs.Every.{every-each}
 use Rattle.numbers.proofs.Pieces.{standing as slots-standing, standing-first as slots-first, standing-last as slots-last, standing-on as slots-on, same-room as slots-room}
 use Rattle.slots.proofs.RoundTrip.{slot-length}
 use Rattle.pages.specs.Pages.{partsOf, slotsOf, namesOf, pieces}
 use Rattle.pages.proofs.SlotBySlot.{lent, lent-part, length-parts}
 use Rattle.page_renames.specs.Renames.{carry, carried, allFit}
-use Rattle.page_renames.proofs.Carried.{all-every, each}
 use Rattle.page_renames.proofs.PageWalk.{name-lent, within-names}
 
 module _ (f : Row → Row) (page : Bytes) where
@@ -50,7 +50,7 @@ module _ (f : Row → Row) (page : Bytes) where
         let l : i < length (map f (namesOf page)) = omega (arith, length-map (namesOf page) f) in
         ap (λ (a : Row). fits (f a)) (name-lent page i h)
         ∙ ap fits (sym (List·getD-map f (namesOf page) i []))
-        ∙ each (f []) i (all-every fits (λ a e. e) (map f (namesOf page)) t) l
+        ∙ every-each fits (map f (namesOf page)) i (f []) l t
 
     -- the name that the code has made
     pub name-made : (r : Joined) (x : Row) → x ≡ nameOf (lent page (slotSize * i)) → Gives r (f x) → rowOf (r .name) ≡ f (nameOf (lent page (slotSize * i)))

@@ -10,13 +10,13 @@ use lib.Seq.{drop-drop, take-all}
 use Rattle.names.specs.declared.Order.{Order}
 use Rattle.names.specs.Ordering.{Row, compareRows, isLess, rising}
 use Rattle.numbers.specs.Bytes.{Bytes}
-use Rattle.numbers.specs.Lists.{every}
+use Rattle.numbers.specs.Lists.{every, firstParts}
 use Rattle.names.specs.Names.{limit}
 use Rattle.slots.specs.Tuples.{tuplesAt}
-use Rattle.slots.specs.Slots.{sizeOver, nameOver, slotOver, headSize, slotSize, depthOf, slotOf, nameOf, keepsSlot}
+use Rattle.slots.specs.Slots.{sizeOver, nameOver, slotOver, keepsOver, headSize, slotSize, depthOf, slotOf, nameOf, keepsSlot}
 use Rattle.slots.proofs.TuplesInBytes.{tuples-on, tuples-within}
 use Rattle.slots.proofs.NameTests.{name-is}
-use Rattle.numbers.proofs.Every.{every-at, every-end}
+use Rattle.numbers.proofs.Every.{every-at, every-each, every-end}
 use Rattle.numbers.proofs.Parts.{length-parts as length-equal, getD-parts, parts-first, parts-none}
 use Rattle.pages.specs.Pages.{partsOver, namesOver, parts, partsOf, slotsOf, nameIn}
 
@@ -26,9 +26,20 @@ use Rattle.pages.specs.Pages.{partsOver, namesOver, parts, partsOf, slot
 abbrev pub lentOver : ℕ → Bytes → ℕ → Bytes
 lentOver room s a = take (a + sizeOver room - a) (drop a s)
 
+-- it is slot k of the first n, where it begins with that slot
+pub part-over : (room : ℕ) (s : Bytes) (n k a : ℕ) → a ≡ sizeOver room * k → k < n → lentOver room s a ≡ getD (firstParts (sizeOver room) n s) k []
+part-over room s n k a q h = let e : a + sizeOver room - a ≡ sizeOver room = omega arith in rw (e, q) (sym (getD-parts (sizeOver room) n s k h))
+
+-- .. and keeps the layout where all of these do
+pub lent-keeps : (room : ℕ) (s : Bytes) (n k : ℕ) → k < n → every (keepsOver room) (firstParts (sizeOver room) n s) ≡ true
+    → keepsOver room (lentOver room s (sizeOver room * k)) ≡ true
+lent-keeps room s n k h e =
+    let l : k < length (firstParts (sizeOver room) n s) = rw length-equal h in
+    ap (keepsOver room) (part-over room s n k (sizeOver room * k) refl h) ∙ every-each (keepsOver room) (firstParts (sizeOver room) n s) k [] l e
+
 module _ (room : ℕ) (s : Bytes) (at : ℕ) (h : sizeOver room ≤ length s - at) where
-  pub length-over : length (lentOver room s at) ≡ sizeOver room
-  length-over = simp (length-take, length-drop) (omega arith)
+  pub lent-length-over : length (lentOver room s at) ≡ sizeOver room
+  lent-length-over = simp (length-take, length-drop) (omega arith)
 
   first-part : partsOver room (drop at s) ≡ lentOver room s at ∷ partsOver room (drop (at + sizeOver room) s)
   first-part =
@@ -66,7 +77,7 @@ lent s a = lentOver limit s a
 
 module _ (s : Bytes) (n k a : ℕ) (q : a ≡ slotSize * k) (h : k < n) where
   pub lent-part : lent s a ≡ getD (parts n s) k []
-  lent-part = let e : a + slotSize - a ≡ slotSize = omega arith in rw (e, q) (sym (getD-parts slotSize n s k h))
+  lent-part = part-over limit s n k a q h
 
   pub lent-length : n ≡ length s / slotSize → length (lent s a) ≡ slotSize
   lent-length e = simp (length-take, length-drop) (omega arith)

@@ -8,7 +8,7 @@ use mathlib.Core.Bool.{Bool, _&&_}
 use lib.ListN.{length, take, drop, getD, replicate}
 use lib.Dec.{eqb, leb}
 use Rattle.names.specs.Ordering.{Row}
-use Rattle.names.specs.Names.{limit, within, isName}
+use Rattle.names.specs.Names.{limit, fitsOver, within, isName}
 use Rattle.numbers.specs.Bytes.{Bytes, at32, allZero, bytes32}
 use Rattle.slots.specs.Tuples.{tuplesAt, tupleSize, rowBytes}
 
@@ -55,7 +55,7 @@ module _ (room : ℕ) where
 
   -- a slot's line number is a u32 and its name a name of at most that many tuples
   abbrev pub isSlotOver : Slot → Bool
-  isSlotOver x = leb (x .line) 4294967295 && isName (x .name) && leb (length (x .name)) room
+  isSlotOver x = leb (x .line) 4294967295 && isName (x .name) && fitsOver room (x .name)
 
 -- ── a slot ──
 

@@ -12,9 +12,10 @@ use Rattle.numbers.specs.Bytes.{Bytes}
 use Rattle.numbers.specs.Lists.{every}
 use Rattle.slots.specs.Slots.{slotSize, nameOf}
 use Rattle.pages.specs.Pages.{parts}
-use Rattle.pages.proofs.SlotBySlot.{part-at, part-end}
+use Rattle.pages.proofs.SlotBySlot.{lent-keeps, part-at, part-end}
 use Rattle.page_renames.proofs.Freshness.{by-slots}
-use Rattle.page_renames.proofs.Carried.{lent-keeps}
+use Rattle.names.specs.Names.{limit}
+use Rattle.pages.proofs.RoundTrip.{laid}
 use Rattle.page_renames.proofs.all_fresh.Statement.{statement}
 use borrow.Author.Needs.{needs}
 use Rattle.page_renames.proofs.all_fresh.Tie as tie
@@ -52,7 +53,7 @@ is-fresh-requires c κs =
     let start : tie.Start Inv-loop μ-loop = search needs in
     let at-loop : tie.At-loop Inv-loop μ-loop = search needs in
     let in-loop : tie.In-loop Inv-loop μ-loop = search needs in
-    lent-keeps (now (start .args .page)) (at-loop .loop .k) (start .pre) (in-loop .loop-test .taken)
+    lent-keeps limit (now (start .args .page)) _ (at-loop .loop .k) (in-loop .loop-test .taken) (laid (now (start .args .page)) (start .pre) .good)
 
 add-k : tie.Need-add-k Inv-loop μ-loop
 add-k c = omega arith

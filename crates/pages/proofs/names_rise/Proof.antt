@@ -8,7 +8,7 @@ use lib.ListN.{length, drop}
 use Rattle.names.specs.Ordering.{rising}
 use Rattle.slots.specs.Slots.{sizeOver}
 use Rattle.pages.specs.Pages.{namesOver}
-use Rattle.pages.proofs.SlotBySlot.{length-over, neighbours, no-neighbours}
+use Rattle.pages.proofs.SlotBySlot.{lent-length-over, neighbours, no-neighbours}
 use Rattle.pages.proofs.names_rise.Statement.{statement}
 use Rattle.pages.proofs.names_rise.Tie as tie
 
@@ -64,7 +64,7 @@ compare-slots-requires c κs =
     let room = start .args .room in
     let s = now (start .args .page) in
     let at = at-loop .loop .at in
-    (length-over room s at (omega arith), length-over room s (at + sizeOver room) (omega arith))
+    (lent-length-over room s at (omega arith), lent-length-over room s (at + sizeOver room) (omega arith))
 
 enum-told : tie.Need-enum-told Inv-loop μ-loop
 enum-told c = search needs

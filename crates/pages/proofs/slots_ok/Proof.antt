@@ -7,7 +7,7 @@ use lib.ListN.{length, drop}
 use Rattle.numbers.specs.Lists.{every}
 use Rattle.slots.specs.Slots.{keepsOver}
 use Rattle.pages.specs.Pages.{partsOver}
-use Rattle.pages.proofs.SlotBySlot.{length-over, part-turn, part-last}
+use Rattle.pages.proofs.SlotBySlot.{lent-length-over, part-turn, part-last}
 use borrow.Author.Tests.{not-true, not-false}
 use borrow.Author.Needs.{needs}
 use Rattle.pages.proofs.slots_ok.Statement.{statement}
@@ -49,7 +49,7 @@ slot-ok-requires c κs =
     let in-loop : tie.In-loop Inv-loop μ-loop = search needs in
     let at-loop : tie.At-loop Inv-loop μ-loop = search needs in
     let start : tie.Start Inv-loop μ-loop = search needs in
-    (length-over (start .args .room) (now (start .args .page)) (at-loop .loop .at) (in-loop .loop-test .taken), start .pre)
+    (lent-length-over (start .args .room) (now (start .args .page)) (at-loop .loop .at) (in-loop .loop-test .taken), start .pre)
 
 returns : tie.Need-returns Inv-loop μ-loop
 returns c =
