@@ -14,7 +14,7 @@ test:
 cost:
 	@tests/cost
 
-# What each call of the library costs, against plain C and a bare copy.
+# What each call of the library costs, against C by hand and a bare copy.
 bench:
 	@bench/run
 

@@ -1,4 +1,4 @@
-/* Compiled twice: as it is, for the library, and after plain_names.h, for the plain C. */
+/* Compiled twice: as it is, for the library, and after in_place_names.h, for C in place. */
 #include "calls.h"
 
 #include "../include/kadalumbir.h"

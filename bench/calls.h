@@ -1,4 +1,5 @@
-/* The calls of the header with arguments of one form, so that they can be timed alike: the library's and the plain C's. */
+/* The calls of the header with arguments of one form, so that they can be timed alike: the library's and those of C in
+ * place. */
 #ifndef BENCH_CALLS_H
 #define BENCH_CALLS_H
 
@@ -47,6 +48,6 @@ typedef struct {
 /* Gives what the call of the header gives. */
 typedef uint64_t (*Call)(const Input *input, Output *output);
 
-extern const Call library_calls[OPERATIONS], plain_calls[OPERATIONS];
+extern const Call library_calls[OPERATIONS], in_place_calls[OPERATIONS];
 
 #endif

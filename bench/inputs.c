@@ -82,11 +82,11 @@ static void cut_slot(Part *page, size_t i)
     memmove(at, at + SLOT_BYTES, page->length - i * SLOT_BYTES);
 }
 
-/* Calls the plain C on an input, whose first part then becomes what that gave, in pieces of so many bytes. */
+/* Calls C in place on an input, whose first part then becomes what that gave, in pieces of so many bytes. */
 static void become_result(Operation operation, size_t piece, Input *input)
 {
     static Output output;
-    input->first.length = kadalumbir_count_of(plain_calls[operation](input, &output)) * piece;
+    input->first.length = kadalumbir_count_of(in_place_calls[operation](input, &output)) * piece;
     memcpy(input->first.bytes, output.bytes, input->first.length);
 }
 
