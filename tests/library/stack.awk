@@ -1,12 +1,7 @@
 # awk -f stack.awk kadalumbir.h FRAMES: holds the stack that the header says for each call to the frames of the archive, of
 # which FRAMES is what objdump -dr writes: what a function pushes and subtracts, what it uses below that (as one that calls
 # nothing may), its return address, and the most of what it calls. Prints the bytes of each call; fails where the header says
-# fewer, or none.
-BEGIN {
-    # How often a function stands on the stack that calls itself: docs/PROMISES.md, epochs.
-    times["epochs::compare_epochs"] = 62
-    times["epochs::step_to"] = 32
-}
+# fewer, or none, and where a function calls itself: of the recursions that there are the compiler makes loops (docs/PROMISES.md, epochs).
 
 function fault(what) {
     print "stack: " what
@@ -21,8 +16,8 @@ function deepest(name, most, i, bytes) {
         bytes = deepest(calls[name, i])
         if (bytes > most) most = bytes
     }
-    if (name in itself && !(name in times)) fault(name " calls itself, and how often is not known")
-    return most + (frame[name] + under[name]) * (name in itself ? times[name] : 1)
+    if (name in itself) fault(name " calls itself, and how often is not known")
+    return most + frame[name] + under[name]
 }
 
 function add_call(name) {

@@ -15,16 +15,18 @@ use answers::Refusal;
 use pages::PAGE;
 use pages::Place;
 use slots::SLOT;
+use slots::Seen;
 
 // The page with the slot before slot k, from the start of out. What is copied is copied once.
 fn write_with(page: &[u8], slot: &[u8], k: usize, out: &mut [u8])
-    requires { ⌜ (slotSize * k ≤ length (now page)) × (length (now page) + length (now slot) ≤ length (now out)) ⌝ }
+    requires { ⌜ (slotSize * k ≤ length (now page)) × (length (now slot) ≡ slotSize) × (length (now page) + slotSize ≤ length (now out)) ⌝ }
     ensures { λ _. ⌜ now (out .exit) ≡ put (now (out .entry)) 0 (take (slotSize * k) (now (page .entry)) ++ now (slot .entry) ++ drop (slotSize * k) (now (page .entry))) ⌝ }
 {
     let p = SLOT * k;
+    let all = SLOT;
     numbers::copy(out, 0, &page[..p]);
-    numbers::copy(out, p, slot);
-    numbers::copy(out, p + slot.len(), &page[p..]);
+    numbers::copy(out, p, &slot[..all]);
+    numbers::copy(out, p + SLOT, &page[p..]);
 }
 
 // The page without slot k, from the start of out.
@@ -44,20 +46,18 @@ enum Checked {
     Found(Place),
 }
 
-// 1 (page), 1 (slot), 2; else the place.
+// 1 (page), 1 (slot), 2; else the place. The slot is looked at first, since both refuse with 1.
 fn check_edit(page: &[u8], slot: &[u8]) -> Checked
     ensures { λ r. ⌜ r ≡ inOrder (editTests (now (page .entry)) (now (slot .entry))) Checked.Refused (Checked.Found (placeOf (nameOf (now (slot .entry))) (namesOf (now (page .entry))))) ⌝ }
 {
-    if !pages::page_ok(page) {
-        return Checked::Refused(Refusal::BadLayout);
-    }
     if !pages::slot_ok(slot) {
         return Checked::Refused(Refusal::BadLayout);
     }
-    if !pages::page_rises(page) {
-        return Checked::Refused(Refusal::NotRising);
+    match pages::look(page) {
+        Seen::Broken => Checked::Refused(Refusal::BadLayout),
+        Seen::NotRising => Checked::Refused(Refusal::NotRising),
+        Seen::Rising => Checked::Found(pages::find(page, slot)),
     }
-    Checked::Found(pages::find(page, slot))
 }
 
 // 11, 8; else the page with the slot before slot k, its rising place. The tests before these have passed.

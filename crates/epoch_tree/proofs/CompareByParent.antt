@@ -1,6 +1,7 @@
 -- The comparison of two epochs by recursion, the epoch index falling at each call: an epoch is the same as itself (`same-epoch`); epoch 0
 -- is the smallest (`root-first`, `root-second`); with the same parent the keys decide (`siblings`); else the one with the greater parent
--- index is compared by its parent, which is above it in the tree (`up-first`, `up-second`). Assumes nothing.
+-- index is compared by its parent, which is above it in the tree (`up-first`, `up-second`). Epochs of one key are one (`key-index`).
+-- Assumes nothing.
 use mathlib.Core.Path.{_≡_, refl, sym, ap, _∙_}
 use mathlib.Core.List.{List, [], _∷_, _++_, map, append-assoc}
 use Prim.Native.Nat.{ℕ, zero, suc, _+_, _<_, _≤_}
@@ -31,7 +32,7 @@ pub same-epoch : (t : List Entry) (i : ℕ) → compareEpochs t i i ≡ Same
 same-epoch t i = paths-same (path t i)
 
 module _ (t : List Entry) (h : Table t) where
-  key-index : (i j : ℕ) → i < length t → j < length t → compareKeys (entryAt t i) (entryAt t j) ≡ Same → i ≡ j
+  pub key-index : (i j : ℕ) → i < length t → j < length t → compareKeys (entryAt t i) (entryAt t j) ≡ Same → i ≡ j
   key-index i j a b e = keys-index t h i j a b (same-tuple (keyTuple (entryAt t i)) (keyTuple (entryAt t j)) (sym (keys-tuples (entryAt t i) (entryAt t j)) ∙ e))
 
   -- each index of the list is in the table

@@ -2,6 +2,7 @@ pub mod TableFacts
 pub mod Routes
 pub mod OrderAndTarget
 pub mod CompareByParent
+pub mod SmallerByParent
 pub mod Walk
 pub mod StepByParent
 pub mod AddedEpoch

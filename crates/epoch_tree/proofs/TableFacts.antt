@@ -1,5 +1,5 @@
 -- What the check of a table says (`Table`): a checked table has these facts (`table`), and a table with them is accepted
--- (`is-table`). A parent has a smaller index (`parent-below`). Assumes nothing.
+-- (`is-table`). A parent has a smaller index (`parent-below`), which is below 32 (`parent-few`). Assumes nothing.
 use mathlib.Core.Path.{_≡_, refl, ap}
 use mathlib.Core.List.{List, [], _∷_}
 use mathlib.Core.Bool.{Bool, true, false, not, _&&_, _||_}
@@ -28,6 +28,13 @@ pub record Table (t : List Entry) : Type 0 where
 pub parent-below : (t : List Entry) → Table t → (i : ℕ) → 1 ≤ i → parentOf t i < i
 parent-below t h zero l = absurd (omega arith)
 parent-below t h (suc i) l = let p : parentOf t (suc i) ≤ i = h .parent i in omega arith
+
+pub parent-few : (t : List Entry) → Table t → (i : ℕ) → i < length t → parentOf t i < maxEntries
+parent-few t h zero l = let z : parentOf t 0 ≡ 0 = ap (λ (e : Entry). e .parent) (h .first) in omega arith
+parent-few t h (suc i) l =
+    let p : parentOf t (suc i) ≤ i = h .parent i in
+    let k : length t ≤ maxEntries = h .few in
+    omega arith
 
 or-0 : (a b : Bool) → a || b ≡ false → a ≡ false
 or-0 true b e = e
@@ -131,7 +138,7 @@ keeps t k (e ∷ l) f =
     let p : k + 0 ≡ k = omega arith in
     both (rw p at (f 0 (omega arith))) (keeps t (suc k) l (λ i g. let q : k + suc i ≡ suc k + i = omega arith in rw q at (f (suc i) (omega arith))))
 
-pair-differs : (e f : Entry) → (e .node ≡ f .node → e .sequence ≡ f .sequence → ⊥) → samePair e f ≡ false
+pub pair-differs : (e f : Entry) → (e .node ≡ f .node → e .sequence ≡ f .sequence → ⊥) → samePair e f ≡ false
 pair-differs e f g = go (eqb (e .node) (f .node)) (eqb (e .sequence) (f .sequence)) refl refl
   where
     go : (a b : Bool) → eqb (e .node) (f .node) ≡ a → eqb (e .sequence) (f .sequence) ≡ b → a && b ≡ false
@@ -139,7 +146,7 @@ pair-differs e f g = go (eqb (e .node) (f .node)) (eqb (e .sequence) (f .sequenc
     go true false p q = refl
     go true true p q = absurd (g (eqb-true (e .node) (f .node) p) (eqb-true (e .sequence) (f .sequence) q))
 
-none-listed : (e : Entry) (l : List Entry) → ((i : ℕ) → i < length l → samePair e (getD l i zeroEntry) ≡ false) → listed e l ≡ false
+pub none-listed : (e : Entry) (l : List Entry) → ((i : ℕ) → i < length l → samePair e (getD l i zeroEntry) ≡ false) → listed e l ≡ false
 none-listed e [] f = refl
 none-listed e (x ∷ l) f = λ i. f 0 (omega arith) i || none-listed e l (λ j g. f (suc j) (omega arith)) i
 

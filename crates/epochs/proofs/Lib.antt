@@ -1,4 +1,5 @@
 pub mod LoopTurns
+pub mod TreeInArray
 pub mod AddOutcomes
 pub mod Laws
 pub mod Settled

@@ -1,20 +1,23 @@
 -- A turn of each loop along a table's entries, and its end: `listed-turn`, `listed-end`; `keeps-turn`, `keeps-end`; `greatest-turn`.
 -- The tests of a table in the code's order (`tests`). Whether an entry is listed depends on its pair alone (`listed-pair`), and
--- `listed-all` is of all entries of a table. Assumes nothing.
+-- `listed-all` is of all entries of a table. A pair above those before it is new (`new-pair`; `under-turn`). Assumes nothing.
 use mathlib.Core.Path.{_≡_, refl, sym, ap, _∙_}
 use mathlib.Core.List.{List, [], _∷_}
 use mathlib.Core.Bool.{Bool, true, false, _&&_, _||_}
 use Prim.Native.Nat.{ℕ, suc, _+_, _-_, _/_, _%_, _<_, _≤_}
 use native.Mathlib.Numerals.{add-one}
+use native.Mathlib.Decide.{decLt}
 use native.Mathlib.Omega.{arith}
 use lib.Dec.{eqb, leb}
-use lib.ListN.{length, take, drop, length-take, drop-of-length-le}
+use lib.ListN.{length, take, drop, getD, length-take, drop-of-length-le}
 use lib.Seq.{drop-cons, getD-take, take-all}
 use Rattle.numbers.specs.Bytes.{Bytes}
 use Rattle.epoch_tree.specs.Tables.{Entry, entrySize, maxEntries, zeroEntry, entryAt, entriesOf, isFirst, samePair, listed, keepsEntry, keepsFrom, isTable, keepsTable}
 use Rattle.epoch_tree.specs.Tree.{greater, greatestTo}
 use Rattle.epoch_tree.proofs.TableBytes.{length-entries}
+use Rattle.epoch_tree.proofs.TableFacts.{pair-differs, none-listed}
 use Rattle.names.specs.declared.Author.{Author}
+use Rattle.epochs.specs.Pairs.{pairNumber, Under}
 use Rattle.epochs.specs.Calls.{entryBy}
 
 in-order : (t : List Entry) → isTable t ≡ leb 1 (length t) && leb (length t) maxEntries && isFirst (entryAt t 0) && keepsFrom t 1 (drop 1 t)
@@ -64,6 +67,23 @@ module _ (t : List Entry) (i : ℕ) where
 
   pub keeps-end : length t ≤ i → true ≡ keepsFrom t i (drop i t)
   keeps-end h = ap (keepsFrom t i) (sym (drop-of-length-le t h))
+
+module _ (t : List Entry) (i top : ℕ) (h : Under t i top) where
+  pub new-pair : (e : Entry) → i ≤ length t → top < pairNumber e → listed e (take i t) ≡ false
+  new-pair e g l = none-listed e (take i t) differs
+    where
+      differs : (j : ℕ) → j < length (take i t) → samePair e (getD (take i t) j zeroEntry) ≡ false
+      differs j k =
+          let z = length-take i t in
+          let q : j < i = omega arith in
+          rw (getD-take i t j zeroEntry q) (pair-differs e (entryAt t j) (λ a b. let u = h j q in omega arith))
+
+  -- one entry more
+  pub under-turn : {r : ℕ} → top ≤ r → pairNumber (entryAt t i) ≤ r → Under t (i + 1) r
+  under-turn a b j k = elim (decLt j i) [
+    | yes l ↦ let u = h j l in omega arith
+    | no l ↦ let e : i ≡ j = omega arith in rw e at b
+  ]
 
 pub greatest-turn : (t : List Entry) (k : ℕ) → 1 ≤ k → greater t (greatestTo t (k - 1)) k ≡ greatestTo t (k + 1 - 1)
 greatest-turn t k h =

@@ -2,13 +2,16 @@
 // "Epoch tree" and "What comes back". What a table and its tree are is defined in epoch_tree/specs, what the calls give in specs/. An
 // epoch is the index of its entry in the table.
 ghost use mathlib.Core.Path.{_≡_};
-ghost use mathlib.Core.Bool.{true};
+ghost use mathlib.Core.Bool.{true, cond, not};
 ghost use Prim.Native.Nat.{_+_, _/_, _≤_, _<_};
-ghost use lib.ListN.{length, take, drop};
+ghost use lib.ListN.{length, take, drop, getD};
+ghost use Rattle.names.specs.declared.Order.the-variants.{Less, More};
+ghost use Rattle.names.specs.Ordering.{then, isLess};
 ghost use Rattle.numbers.specs.Bytes.{put};
 ghost use Rattle.answers.specs.Answers.{leaves};
 ghost use Rattle.epoch_tree.specs.Tables.{entrySize, entriesOf, entryAt, entryBytes, isFirst, samePair, listed, keepsEntry, keepsFrom, keepsTable};
-ghost use Rattle.epoch_tree.specs.Tree.{parentOf, compareKeys, compareEpochs, greater, target as targetOf, stepTo};
+ghost use Rattle.epoch_tree.specs.Tree.{parentOf, compareKeys, compareEpochs, greater, target as targetOf, stepTo, nextStep};
+ghost use Rattle.epochs.specs.Pairs.{pairNumber, Under};
 ghost use Rattle.epochs.specs.Calls.{checkTable, stepNumber, stepIndex, numberIn, indexIn, answerOf, nextStepOutcome, entryBy, addOutcome};
 use answers::Answer;
 use answers::Refusal;
@@ -67,15 +70,15 @@ fn first_ok(table: &[u8]) -> bool
     parent_of(table, 0) == 0
 }
 
-// Entry k has that (node, sequence).
+// Entry k has that (node, sequence). Sequences are asked first, since more of them differ.
 fn pair_is(table: &[u8], k: usize, author: Author) -> bool
     requires { ⌜ k < length (now table) / entrySize ⌝ }
     ensures { λ r. ⌜ r ≡ samePair (entryBy author 0) (entryAt (entriesOf (now (table .entry))) k) ⌝ }
 {
-    if author.node != node_of(table, k) {
+    if author.sequence != sequence_of(table, k) {
         return false;
     }
-    author.sequence == sequence_of(table, k)
+    author.node == node_of(table, k)
 }
 
 // One of the first n entries has that (node, sequence).
@@ -93,24 +96,49 @@ fn is_listed(table: &[u8], n: usize, author: Author) -> bool
     false
 }
 
-// "Every other entry has node at least 1, a parent index below its own index, and a (node, sequence) that no other entry has."
-fn entry_ok(table: &[u8], i: usize) -> bool
-    requires { ⌜ i < length (now table) / entrySize ⌝ }
+// Node and sequence of entry k as one number.
+fn pair_of(table: &[u8], k: usize) -> u64
+    requires { ⌜ k < length (now table) / entrySize ⌝ }
+    ensures { λ r. ⌜ r ≡ pairNumber (entryAt (entriesOf (now (table .entry))) k) ⌝ }
+{
+    (node_of(table, k) as u64) * 4294967296 + (sequence_of(table, k) as u64)
+}
+
+fn larger(a: u64, b: u64) -> u64
+    ensures { λ r. ⌜ (a ≤ r) × (b ≤ r) ⌝ }
+{
+    if a < b { b } else { a }
+}
+
+// No entry before entry i has its (node, sequence): a pair above the greatest of theirs is none of them, and another is held against each.
+fn is_new(table: &[u8], i: usize, top: u64) -> bool
+    requires { ⌜ (i < length (now table) / entrySize) × Under (entriesOf (now table)) i top ⌝ }
+    ensures { λ r. ⌜ r ≡ not (listed (entryAt (entriesOf (now (table .entry))) i) (take i (entriesOf (now (table .entry))))) ⌝ }
+{
+    if top < pair_of(table, i) {
+        return true;
+    }
+    let node = node_of(table, i);
+    let sequence = sequence_of(table, i);
+    if is_listed(table, i, Author { node, sequence }) {
+        return false;
+    }
+    true
+}
+
+// "Every other entry has node at least 1, a parent index below its own index, and a (node, sequence) that no other entry has." The greatest
+// pair before it is at most `top`.
+fn entry_ok(table: &[u8], i: usize, top: u64) -> bool
+    requires { ⌜ (i < length (now table) / entrySize) × Under (entriesOf (now table)) i top ⌝ }
     ensures { λ r. ⌜ r ≡ keepsEntry (entriesOf (now (table .entry))) i (entryAt (entriesOf (now (table .entry))) i) ⌝ }
 {
-    let node = node_of(table, i);
-    if node < 1 {
+    if node_of(table, i) < 1 {
         return false;
     }
     if i <= parent_of(table, i) {
         return false;
     }
-    let sequence = sequence_of(table, i);
-    let pair = Author { node, sequence };
-    if is_listed(table, i, pair) {
-        return false;
-    }
-    true
+    is_new(table, i, top)
 }
 
 // Every entry but entry 0.
@@ -119,11 +147,13 @@ fn others_ok(table: &[u8]) -> bool
     ensures { λ r. ⌜ r ≡ keepsFrom (entriesOf (now (table .entry))) 1 (drop 1 (entriesOf (now (table .entry)))) ⌝ }
 {
     let n = table.len() / ENTRY;
+    let mut top = pair_of(table, 0);
     let mut i: usize = 1;
     while i < n {
-        if !entry_ok(table, i) {
+        if !entry_ok(table, i, top) {
             return false;
         }
+        top = larger(top, pair_of(table, i));
         i += 1;
     }
     true
@@ -170,57 +200,86 @@ fn compare_keys(table: &[u8], i: usize, j: usize) -> Order
     names::first_of(nodes, sequences)
 }
 
-// Two epochs by their paths, each "traced back through parents, each with a smaller index". Of two that have different parents the one
-// with the greater parent index, say i under p, is compared by p: j is not under p, since its parent's index is below p, so p's path
-// decides as i's would, and where p is j itself, i's path goes on and is the greater.
-fn compare_epochs(table: &[u8], i: usize, j: usize) -> Order
-    requires { ⌜ (keepsTable (now table) ≡ true) × (i < length (now table) / entrySize) × (j < length (now table) / entrySize) ⌝ }
-    ensures { λ r. ⌜ r ≡ compareEpochs (entriesOf (now (table .entry))) i j ⌝ }
+// ── the tree ──
+
+// From here on the table is the first `size` bytes of an array. A reference to an array is one number, and the compiler makes a loop of a
+// function that ends by calling itself where each of its parameters is one: so the recursion needs no stack.
+
+fn byte_at(s: &[u8], p: usize) -> usize
+    requires { ⌜ p < length (now s) ⌝ }
+    ensures { λ r. ⌜ r ≡ getD (now (s .entry)) p 0 ⌝ }
+{
+    s[p] as usize
+}
+
+// A parent's index is below 32, so that its second byte is all of it.
+fn parent_in(tree: &[u8; TABLE], size: usize, k: usize) -> usize
+    requires { ⌜ (keepsTable (take size (now tree)) ≡ true) × (k < length (take size (now tree)) / entrySize) ⌝ }
+    ensures { λ r. ⌜ r ≡ parentOf (entriesOf (take size (now (tree .entry)))) k ⌝ }
+{
+    byte_at(tree, ENTRY * k + PARENT + 1)
+}
+
+// The key of entry i is below that of entry j.
+fn key_below(tree: &[u8; TABLE], size: usize, i: usize, j: usize) -> bool
+    requires { ⌜ (i < length (take size (now tree)) / entrySize) × (j < length (take size (now tree)) / entrySize) ⌝ }
+    ensures { λ r. ⌜ r ≡ isLess (compareKeys (entryAt (entriesOf (take size (now (tree .entry)))) i) (entryAt (entriesOf (take size (now (tree .entry)))) j)) ⌝ }
+{
+    names::is_less(compare_keys(tree, i, j))
+}
+
+// The first of two epochs is the smaller by their paths, each "traced back through parents, each with a smaller index"; `tie` is what two
+// equal ones come to. Of two that have different parents the one with the greater parent index, say i under p, is compared by p: j is not
+// under p, since its parent's index is below p, so p's path decides as i's would, and where p is j itself, i's path goes on and is the
+// greater.
+fn is_smaller(tree: &[u8; TABLE], size: usize, i: usize, j: usize, tie: bool) -> bool
+    requires { ⌜ (keepsTable (take size (now tree)) ≡ true) × (i < length (take size (now tree)) / entrySize) × (j < length (take size (now tree)) / entrySize) ⌝ }
+    ensures { λ r. ⌜ r ≡ isLess (then (compareEpochs (entriesOf (take size (now (tree .entry)))) i j) (cond tie Less More)) ⌝ }
 {
     if i == j {
-        return Order::Same;
+        return tie;
     }
     if i < 1 {
-        return Order::Less;
+        return true;
     }
     if j < 1 {
-        return Order::More;
+        return false;
     }
-    let p = parent_of(table, i);
-    let q = parent_of(table, j);
+    let p = parent_in(tree, size, i);
+    let q = parent_in(tree, size, j);
     if p == q {
-        return compare_keys(table, i, j);
+        return key_below(tree, size, i, j);
     }
     if q < p {
-        return names::first_of(compare_epochs(table, p, j), Order::More);
+        return is_smaller(tree, size, p, j, false);
     }
-    names::first_of(compare_epochs(table, i, q), Order::Less)
+    is_smaller(tree, size, i, q, true)
 }
 
 // ── the target ──
 
 // The one of two epochs with the greater path.
-fn greater_of(table: &[u8], i: usize, j: usize) -> usize
-    requires { ⌜ (keepsTable (now table) ≡ true) × (i < length (now table) / entrySize) × (j < length (now table) / entrySize) ⌝ }
-    ensures { λ r. ⌜ r ≡ greater (entriesOf (now (table .entry))) i j ⌝ }
+fn greater_of(tree: &[u8; TABLE], size: usize, i: usize, j: usize) -> usize
+    requires { ⌜ (keepsTable (take size (now tree)) ≡ true) × (i < length (take size (now tree)) / entrySize) × (j < length (take size (now tree)) / entrySize) ⌝ }
+    ensures { λ r. ⌜ r ≡ greater (entriesOf (take size (now (tree .entry)))) i j ⌝ }
 {
-    match compare_epochs(table, i, j) {
-        Order::Less => j,
-        Order::Same => i,
-        Order::More => i,
+    if is_smaller(tree, size, i, j, false) {
+        j
+    } else {
+        i
     }
 }
 
 // "The target is the greatest."
-fn target(table: &[u8]) -> usize
-    requires { ⌜ keepsTable (now table) ≡ true ⌝ }
-    ensures { λ r. ⌜ r ≡ targetOf (entriesOf (now (table .entry))) ⌝ }
+fn target(tree: &[u8; TABLE], size: usize) -> usize
+    requires { ⌜ (keepsTable (take size (now tree)) ≡ true) × (size ≤ length (now tree)) ⌝ }
+    ensures { λ r. ⌜ r ≡ targetOf (entriesOf (take size (now (tree .entry)))) ⌝ }
 {
-    let n = table.len() / ENTRY;
+    let n = size / ENTRY;
     let mut best: usize = 0;
     let mut k: usize = 1;
     while k < n {
-        best = greater_of(table, best, k);
+        best = greater_of(tree, size, best, k);
         k += 1;
     }
     best
@@ -285,23 +344,49 @@ pub fn answer(n: Next) -> Answer
     }
 }
 
-// The step from c towards d, whose path is "traced back through parents, each with a smaller index": c can be on it only while the
-// index is not below c, and the epoch on it whose parent is c is the child that the step goes down to.
-fn step_to(table: &[u8], d: usize, c: usize) -> Step
-    requires { ⌜ (keepsTable (now table) ≡ true) × (d < length (now table) / entrySize) × (c < length (now table) / entrySize) ⌝ }
-    ensures { λ r. ⌜ r ≡ stepTo (entriesOf (now (table .entry))) d c ⌝ }
+// Of d's path, "traced back through parents, each with a smaller index", the last epoch whose index is above c: it is under c where c is on
+// the path, since no other then is.
+fn above(tree: &[u8; TABLE], size: usize, d: usize, c: usize) -> usize
+    requires { ⌜ (keepsTable (take size (now tree)) ≡ true) × (d < length (take size (now tree)) / entrySize) × (c < d) ⌝ }
+    ensures { λ r. ⌜ stepTo (entriesOf (take size (now (tree .entry)))) r c ≡ stepTo (entriesOf (take size (now (tree .entry)))) d c ⌝ }
+    ensures { λ r. ⌜ (c < r) × (r ≤ d) × (parentOf (entriesOf (take size (now (tree .entry)))) r ≤ c) ⌝ }
+{
+    let p = parent_in(tree, size, d);
+    if p <= c {
+        return d;
+    }
+    above(tree, size, p, c)
+}
+
+// The step from c towards d: c can be on d's path only where its index is the smaller, and the epoch on it whose parent is c is the child
+// that the step goes down to.
+fn step_to(tree: &[u8; TABLE], size: usize, d: usize, c: usize) -> Step
+    requires { ⌜ (keepsTable (take size (now tree)) ≡ true) × (d < length (take size (now tree)) / entrySize) × (c < length (take size (now tree)) / entrySize) ⌝ }
+    ensures { λ r. ⌜ r ≡ stepTo (entriesOf (take size (now (tree .entry)))) d c ⌝ }
 {
     if d == c {
         return Step::Stay;
     }
     if d < c {
-        return Step::Up(parent_of(table, c));
+        return Step::Up(parent_in(tree, size, c));
     }
-    let p = parent_of(table, d);
-    if p == c {
-        return Step::Down(d);
+    let child = above(tree, size, d, c);
+    if parent_in(tree, size, child) == c {
+        return Step::Down(child);
     }
-    step_to(table, p, c)
+    Step::Up(parent_in(tree, size, c))
+}
+
+// The step from c towards the target of a table.
+fn step_in(table: &[u8], c: usize) -> Step
+    requires { ⌜ (keepsTable (now table) ≡ true) × (c < length (now table) / entrySize) ⌝ }
+    ensures { λ r. ⌜ r ≡ nextStep (entriesOf (now (table .entry))) c ⌝ }
+{
+    let mut tree = [0u8; TABLE];
+    numbers::copy(&mut tree, 0, table);
+    let size = table.len();
+    let d = target(&tree, size);
+    step_to(&tree, size, d, c)
 }
 
 // 13, 14; else the next step.
@@ -314,7 +399,7 @@ pub fn next_step(table: &[u8], current: usize) -> Next
     if table.len() / ENTRY <= current {
         return Next::Refused(Refusal::NoEpoch);
     }
-    Next::Take(step_to(table, target(table), current))
+    Next::Take(step_in(table, current))
 }
 
 // ── adding ──

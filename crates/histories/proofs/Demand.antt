@@ -31,7 +31,8 @@ use Rattle.page_renames.proofs.Carried.{all-every, page-valid, names-fit, carri
 use Rattle.page_renames.proofs.Books.{take-back-by, Asked, back-valid}
 use Rattle.histories.specs.Demand.{takenBackAs, Marked, namesBack, TakenBack, restored, tooDeep, short, meeting, Demand3}
 use Rattle.histories.proofs.Members.{in-all, all-in, some-not}
-use Rattle.histories.proofs.Unmarked.{unmarkedSlot, some-marked, unmarked-free, renamed-free}
+use Rattle.one_name.proofs.Unmarked.{unmarked-free}
+use Rattle.histories.proofs.Unmarked.{unmarkedSlot, some-marked, renamed-free}
 use Rattle.histories.proofs.Along.{Line, wasOld, wasAdded, Along, old-name, name-again, along}
 use Rattle.histories.proofs.Seven.{not-rising, asked-last}
 use Rattle.histories.proofs.Restored.{is-restored}

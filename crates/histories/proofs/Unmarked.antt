@@ -1,16 +1,15 @@
--- Names without markers: a test (`unmarked`), of which slots that do not all pass it are `Marked` (`some-marked`), and a name that
--- passes it is `MarkerFree` as crates/name_renames has it (`unmarked-free`); renaming brings no marker in (`renamed-free`). Assumes nothing.
-use mathlib.Core.Path.{_≡_, refl}
+-- Names without markers: slots that do not all pass the test (`unmarked`) are `Marked` (`some-marked`); renaming brings no marker in
+-- (`renamed-free`). Assumes nothing.
+use mathlib.Core.Path.{_≡_}
 use mathlib.Core.List.{List}
-use mathlib.Core.Bool.{Bool, true, false, not}
+use mathlib.Core.Bool.{Bool, false, not}
 use Prim.Native.Nat.{ℕ}
 use borrow.Author.Tests.{not-false}
 use Rattle.names.specs.declared.Author.{Author}
 use Rattle.names.specs.declared.Tuple.{Tuple}
-use Rattle.names.specs.Ordering.{Row, compareTuples}
+use Rattle.names.specs.Ordering.{Row}
 use Rattle.names.specs.Names.{marker}
-use Rattle.numbers.proofs.Bools.{and-0, and-1, yes-no}
-use Rattle.names.proofs.Validity.{Ordinary, Middle, plain, marker-m, marker-M, Ends, final, onward, Valid, valid, valid-ends}
+use Rattle.names.proofs.Validity.{Valid, valid}
 use Rattle.name_renames.specs.declared.Case.{Case}
 use Rattle.name_renames.specs.declared.Case.the-variants.{KeepBelow, PutBelow, Logged, Between, PutAbove, KeepAbove}
 use Rattle.name_renames.specs.Renaming.{become, caseOf, firstPosition, rename}
@@ -19,11 +18,9 @@ use Rattle.name_renames.proofs.Gaps.{MarkerFree}
 use Rattle.numbers.specs.Bytes.{Bytes}
 use Rattle.numbers.specs.Lists.{every}
 use Rattle.slots.specs.Slots.{nameOf}
+use Rattle.one_name.specs.Markers.{unmarked}
 use Rattle.histories.specs.Demand.{Marked}
 use Rattle.histories.proofs.Members.{some-not}
-
-abbrev pub unmarked : Row → Bool
-unmarked a = every (λ (t : Tuple). not (marker t)) a
 
 abbrev pub unmarkedSlot : Bytes → Bool
 unmarkedSlot slot = unmarked (nameOf slot)
@@ -33,21 +30,6 @@ some-marked slots e =
     let s = some-not unmarkedSlot slots e in
     let t = some-not (λ (t : Tuple). not (marker t)) (nameOf (s .0)) (s .2) in
     (s .0, s .1, t .0, t .1, not-false (marker (t .0)) (t .2))
-
--- ── names that pass ──
-
-middle-ordinary : {t : Tuple} → Middle t → not (marker t) ≡ true → Ordinary t
-unfolding marker compareTuples
-middle-ordinary (plain o) e = o
-middle-ordinary (marker-m q) e = yes-no (rw q at e) refl
-middle-ordinary (marker-M q) e = yes-no (rw q at e) refl
-
-ends-free : {a : Row} → Ends a → unmarked a ≡ true → MarkerFree a
-ends-free (final o h) e = cons o nil
-ends-free (onward {t} {a} b k) e = cons (middle-ordinary b (and-0 (not (marker t)) (unmarked a) e)) (ends-free k (and-1 (not (marker t)) (unmarked a) e))
-
-pub unmarked-free : {a : Row} → Valid a → unmarked a ≡ true → MarkerFree a
-unmarked-free v e = ends-free (valid-ends v) e
 
 -- ── renaming ──
 

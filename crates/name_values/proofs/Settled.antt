@@ -6,7 +6,6 @@ use Rattle.names.specs.Names.{rowOf}
 use Rattle.name_values.proofs.low_marker.Reads as low-marker
 use Rattle.name_values.proofs.high_marker.Reads as high-marker
 use Rattle.name_values.proofs.empty.Reads as empty
-use Rattle.name_values.proofs.join.Reads as join
 use Rattle.name_values.proofs.join_by.Reads as join-by
 use Rattle.name_values.proofs.not_below_zero.Reads as not-below-zero
 use Rattle.name_values.proofs.one.Reads as one-reads
@@ -22,9 +21,6 @@ high-marker-settled κs a r s r' s' p q = one p q
 
 pub empty-settled : (κs : _) (a : _) (r : _) (s : _) (r' : _) (s' : _) → empty.Learnt κs a r s → empty.Learnt κs a r' s' → r ≡ r'
 empty-settled κs a r s r' s' p q = one p q
-
-pub join-settled : (κs : _) (a : _) (r : _) (s : _) (r' : _) (s' : _) → join.Learnt κs a r s → join.Learnt κs a r' s' → r ≡ r'
-join-settled κs a r s r' s' p q = λ i. record { fits = one (p .0) (q .0) i; name = one (p .1) (q .1) i }
 
 pub join-by-settled : (κs : _) (a : _) (r : _) (s : _) (r' : _) (s' : _) → join-by.Learnt κs a r s → join-by.Learnt κs a r' s' → r ≡ r'
 join-by-settled κs a r s r' s' p q = λ i. record { fits = one (p .0) (q .0) i; name = one (p .1) (q .1) i }

@@ -82,19 +82,7 @@ fn append(a: Name, b: Name) -> Name
     r
 }
 
-// "a·b means the tuples of a, then those of b." Where these are more than LIMIT there is no name.
-pub fn join(a: Name, b: Name) -> Joined
-    ensures { λ r. ⌜ (r .fits ≡ fits (rowOf a ++ rowOf b)) × (r .name ≡ valueOf (joined (rowOf a) (rowOf b))) ⌝ }
-{
-    if LIMIT < names::tuples_in(a) + names::tuples_in(b) {
-        let name = empty();
-        return Joined { fits: false, name };
-    }
-    let name = append(append(empty(), a), b);
-    Joined { fits: true, name }
-}
-
-// a·t·b, with the tuple t between.
+// "a·b means the tuples of a, then those of b": a·t·b, with the tuple t between. Where these are more than LIMIT there is no name.
 pub fn join_by(a: Name, t: Tuple, b: Name) -> Joined
     ensures { λ r. ⌜ (r .fits ≡ fits (rowOf a ++ (t ∷ rowOf b))) × (r .name ≡ valueOf (joined (rowOf a) (t ∷ rowOf b))) ⌝ }
 {

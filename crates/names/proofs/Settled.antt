@@ -6,6 +6,7 @@ use Rattle.names.proofs.is_less.Reads as is-less
 use Rattle.names.proofs.is_same.Reads as is-same
 use Rattle.names.proofs.compare_numbers.Reads as compare-numbers
 use Rattle.names.proofs.first_of.Reads as first-of
+use Rattle.names.proofs.compare_tuples.Reads as compare-tuples
 use Rattle.names.proofs.tuples_in.Reads as tuples-in
 use Rattle.names.proofs.compare.Reads as compare
 use Rattle.names.proofs.is_below.Reads as is-below
@@ -21,6 +22,9 @@ compare-numbers-settled κs a r s r' s' p q = one p q
 
 pub first-of-settled : (κs : _) (a : _) (r : _) (s : _) (r' : _) (s' : _) → first-of.Learnt κs a r s → first-of.Learnt κs a r' s' → r ≡ r'
 first-of-settled κs a r s r' s' p q = one p q
+
+pub compare-tuples-settled : (κs : _) (a : _) (r : _) (s : _) (r' : _) (s' : _) → compare-tuples.Learnt κs a r s → compare-tuples.Learnt κs a r' s' → r ≡ r'
+compare-tuples-settled κs a r s r' s' p q = one p q
 
 pub tuples-in-settled : (κs : _) (a : _) (r : _) (s : _) (r' : _) (s' : _) → tuples-in.Learnt κs a r s → tuples-in.Learnt κs a r' s' → r ≡ r'
 tuples-in-settled κs a r s r' s' p q = one (p .0) (q .0)

@@ -60,16 +60,17 @@ pub fn is_same(o: Order) -> bool
     }
 }
 
+// Equal ones are told first: of numbers in bytes the compiler then swaps only two that differ.
 pub fn compare_numbers(a: u32, b: u32) -> Order
     ensures { λ r. ⌜ r ≡ compareℕ a b ⌝ }
 {
+    if a == b {
+        return Order::Same;
+    }
     if a < b {
         return Order::Less;
     }
-    if b < a {
-        return Order::More;
-    }
-    Order::Same
+    Order::More
 }
 
 // Signed: -1 comes before 0.
@@ -97,7 +98,7 @@ pub fn first_of(a: Order, b: Order) -> Order
 }
 
 // "Tuples compare by position, node, sequence, offset, in that order, offset signed."
-fn compare_tuples(s: Tuple, t: Tuple) -> Order
+pub fn compare_tuples(s: Tuple, t: Tuple) -> Order
     ensures { λ r. ⌜ r ≡ compareTuples s t ⌝ }
 {
     let position = compare_numbers(s.position as u32, t.position as u32);

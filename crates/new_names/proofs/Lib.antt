@@ -1,4 +1,5 @@
 pub mod Prefixes
 pub mod Rules
+pub mod PartsOfNames
 pub mod NewNames
 pub mod Settled

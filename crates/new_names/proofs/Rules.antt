@@ -1,8 +1,8 @@
 -- The rule for new names, way by way, as the code takes it. Assumes nothing.
-use mathlib.Core.Path.{_≡_, refl, subst}
+use mathlib.Core.Path.{_≡_, refl}
 use mathlib.Core.Logic.{_⊎_, inl, inr}
 use mathlib.Core.List.{[], _∷_, _++_}
-use mathlib.Core.Option.{Option, none, some}
+use mathlib.Core.Option.{none, some}
 use mathlib.Core.Bool.{Bool, true, false, cond}
 use Prim.Native.Nat.{ℕ, _+_, _/_, _<_, _≤_}
 use native.Mathlib.Nat.{not-suc-le-zero}
@@ -15,12 +15,7 @@ use Rattle.names.specs.declared.Author.{Author}
 use Rattle.names.specs.declared.Tuple.{Tuple}
 use Rattle.names.specs.Ordering.{Row, compareTuples, isSame}
 use Rattle.names.specs.Names.{lowered, m}
-use Rattle.new_names.specs.declared.NewName.{NewName}
-use Rattle.new_names.specs.NewNames.{firstBefore, firstAfter, rest, own, beforeTuple, closeBy, newName, answerName, Says}
-
--- what is said of an outcome of the rule is said of an equal one
-pub given : (r : NewName) {o o' : Option Row} → o ≡ o' → Says r (answerName o) → Says r (answerName o')
-given r e p = subst (λ (o : Option Row). Says r (answerName o)) e p
+use Rattle.new_names.specs.NewNames.{firstBefore, firstAfter, rest, own, beforeTuple, closeBy, newName}
 
 -- ── before b's first tuple after a ──
 

@@ -4,18 +4,22 @@ ghost use mathlib.Core.Path.{_≡_};
 ghost use mathlib.Core.List.{[], _∷_, _++_};
 ghost use mathlib.Core.Option.{none, some};
 ghost use mathlib.Core.Bool.{cond};
-ghost use Prim.Native.Nat.{_+_, _*_, _≤_};
-ghost use lib.ListN.{drop};
-ghost use Rattle.names.specs.Names.{rowOf, valueOf};
+ghost use Prim.Native.Nat.{_+_, _≤_, _<_};
+ghost use lib.ListN.{drop, getD};
+ghost use Rattle.names.specs.Names.{limit, valueOf, m};
+ghost use Rattle.numbers.specs.Bytes.{Bytes};
 ghost use Rattle.slots.specs.Tuples.{rowAt, Within, Lies};
 ghost use Rattle.pages.specs.Pages.{namesOf};
 ghost use Rattle.new_names.specs.NewNames.{firstBefore, firstAfter, rest, own as ownTuple, beforeTuple, closeBy, newName, nameBefore, refuseName, answerName, newNameOutcome, Says};
+ghost use Rattle.new_names.specs.FoundParts.{partsOf, madeOf, Stands, Means};
 use answers::Answer;
 use answers::Refusal;
 use names::Author;
+use names::LIMIT;
 use names::Name;
 use names::Tuple;
 use slots::SLOT;
+use slots::Seen;
 use slots::Span;
 use slots::TUPLE;
 
@@ -33,13 +37,26 @@ pub struct NewName {
     pub name: Name,
 }
 
-fn refused(r: Refusal) -> NewName
-    ensures { λ n. ⌜ Says n (refuseName r) ⌝ }
+// What the rule finds before a name is made: the answer, and of what the name is made: of the tuples that stand at `a` and two more,
+// the first `depth`.
+struct Parts {
+    answer: Answer,
+    a: Span,
+    first: Tuple,
+    second: Tuple,
+    depth: usize,
+}
+
+fn refused(r: Refusal) -> Parts
+    ensures { λ p. ⌜ ((s : Bytes) → Means s p (refuseName r)) ⌝ }
 {
-    let name = name_values::empty();
-    NewName {
+    let zero = name_values::low_marker();
+    Parts {
         answer: Answer::Refused(r),
-        name,
+        a: Span { at: 0, count: 0 },
+        first: zero,
+        second: zero,
+        depth: 0,
     }
 }
 
@@ -55,25 +72,39 @@ fn own(author: Author, position: u16) -> Tuple
     }
 }
 
-// The name of two tuples.
-fn two(s: Tuple, t: Tuple) -> Name
-    ensures { λ r. ⌜ r ≡ valueOf (s ∷ t ∷ []) ⌝ }
+// a·t, or 6 where that has too many tuples.
+fn one_more(a: Span, t: Tuple) -> Parts
+    requires { ⌜ a .count ≤ limit ⌝ }
+    ensures { λ p. ⌜ ((s : Bytes) → Lies s a → Means s p (answerName (some (rowAt s a ++ (t ∷ []))))) ⌝ }
 {
-    name_values::push(name_values::one(s), t)
-}
-
-// a·b, or 6 where that has too many tuples.
-fn extended(a: Name, b: Name) -> NewName
-    ensures { λ r. ⌜ Says r (answerName (some (rowOf a ++ rowOf b))) ⌝ }
-{
-    let j = name_values::join(a, b);
-    if !j.fits {
+    let depth = a.count + 1;
+    if LIMIT < depth {
         return refused(Refusal::TooDeep);
     }
-    let name = j.name;
-    NewName {
+    Parts {
         answer: Answer::Accepted(0),
-        name,
+        a,
+        first: t,
+        second: t,
+        depth,
+    }
+}
+
+// a·t·u, or 6 where that has too many tuples.
+fn two_more(a: Span, t: Tuple, u: Tuple) -> Parts
+    requires { ⌜ a .count ≤ limit ⌝ }
+    ensures { λ p. ⌜ ((s : Bytes) → Lies s a → Means s p (answerName (some (rowAt s a ++ (t ∷ u ∷ []))))) ⌝ }
+{
+    let depth = a.count + 2;
+    if LIMIT < depth {
+        return refused(Refusal::TooDeep);
+    }
+    Parts {
+        answer: Answer::Accepted(0),
+        a,
+        first: t,
+        second: u,
+        depth,
     }
 }
 
@@ -118,15 +149,12 @@ fn is_prefix(page: &[u8], a: Span, b: Span) -> bool
 
 // "If y's position is 2 or more: a·(half that position rounded down, node, sequence, 0). If it is 1 and y's offset is at
 // least 0: a·(y one offset lower)·(32768, node, sequence, 0). Otherwise answer 12."
-fn before_tuple(page: &[u8], a: Span, y: Tuple, author: Author) -> NewName
-    requires { ⌜ Lies (now page) a ⌝ }
-    ensures { λ r. ⌜ Says r (answerName (beforeTuple author (rowAt (now (page .entry)) a) y)) ⌝ }
+fn before_tuple(a: Span, y: Tuple, author: Author) -> Parts
+    requires { ⌜ a .count ≤ limit ⌝ }
+    ensures { λ p. ⌜ ((s : Bytes) → Lies s a → Means s p (answerName (beforeTuple author (rowAt s a) y))) ⌝ }
 {
     if 2 <= y.position {
-        return extended(
-            slots::read_row(page, a.at, a.count),
-            name_values::one(own(author, y.position / 2)),
-        );
+        return one_more(a, own(author, y.position / 2));
     }
     if y.position != 1 {
         return refused(Refusal::NoNewName);
@@ -134,51 +162,44 @@ fn before_tuple(page: &[u8], a: Span, y: Tuple, author: Author) -> NewName
     if !name_values::not_below_zero(y.offset) {
         return refused(Refusal::NoNewName);
     }
-    extended(
-        slots::read_row(page, a.at, a.count),
-        two(name_values::one_lower(y), own(author, MIDDLE)),
-    )
+    two_more(a, name_values::one_lower(y), own(author, MIDDLE))
 }
 
 // "3. Else a·(32768, node, sequence, 0)."
-fn right_after(page: &[u8], a: Span, author: Author) -> NewName
-    requires { ⌜ Lies (now page) a ⌝ }
-    ensures { λ r. ⌜ Says r (answerName (some (rowAt (now (page .entry)) a ++ (ownTuple author 32768 ∷ [])))) ⌝ }
+fn right_after(a: Span, author: Author) -> Parts
+    requires { ⌜ a .count ≤ limit ⌝ }
+    ensures { λ p. ⌜ ((s : Bytes) → Lies s a → Means s p (answerName (some (rowAt s a ++ (ownTuple author 32768 ∷ []))))) ⌝ }
 {
-    extended(
-        slots::read_row(page, a.at, a.count),
-        name_values::one(own(author, MIDDLE)),
-    )
+    one_more(a, own(author, MIDDLE))
 }
 
 // "2. Else if a is missing or a proper prefix of b, let y be b's first tuple after a."
-fn close_by(page: &[u8], a: Span, b: Span, author: Author) -> NewName
+fn close_by(page: &[u8], a: Span, b: Span, author: Author) -> Parts
     requires { ⌜ Lies (now page) a × Lies (now page) b ⌝ }
-    ensures { λ r. ⌜ Says r (answerName (closeBy author (rowAt (now (page .entry)) a) (rest (rowAt (now (page .entry)) a) (rowAt (now (page .entry)) b)))) ⌝ }
+    ensures { λ p. ⌜ Means (now (page .entry)) p (answerName (closeBy author (rowAt (now (page .entry)) a) (rest (rowAt (now (page .entry)) a) (rowAt (now (page .entry)) b)))) ⌝ }
 {
     if b.count <= a.count {
-        return right_after(page, a, author);
+        return right_after(a, author);
     }
     if !is_prefix(page, a, b) {
-        return right_after(page, a, author);
+        return right_after(a, author);
     }
     let y = slots::read_tuple(page, b.at + TUPLE * a.count);
-    before_tuple(page, a, y, author)
+    before_tuple(a, y, author)
 }
 
 // "1. If they differ by 2 or more: one tuple, position half their sum rounded down, author's node and sequence, offset 0."
-fn new_between(page: &[u8], a: Span, b: Span, author: Author) -> NewName
+fn new_between(page: &[u8], a: Span, b: Span, author: Author) -> Parts
     requires { ⌜ Lies (now page) a × Lies (now page) b ⌝ }
-    ensures { λ r. ⌜ Says r (answerName (newName author (rowAt (now (page .entry)) a) (rowAt (now (page .entry)) b))) ⌝ }
+    ensures { λ p. ⌜ Means (now (page .entry)) p (answerName (newName author (rowAt (now (page .entry)) a) (rowAt (now (page .entry)) b))) ⌝ }
 {
     let low = first_before(page, a);
     let high = first_after(page, b);
     if low + 2 <= high {
-        let name = name_values::one(own(author, ((low + high) / 2) as u16));
-        return NewName {
-            answer: Answer::Accepted(0),
-            name,
-        };
+        return one_more(
+            Span { at: 0, count: 0 },
+            own(author, ((low + high) / 2) as u16),
+        );
     }
     close_by(page, a, b, author)
 }
@@ -193,15 +214,14 @@ fn span_before(page: &[u8], gap: usize) -> Span
     pages::span_of(page, gap - 1)
 }
 
-// 1, 2, 4, 16, 12, 6; else a new name for the gap before slot `gap`, or after the last.
-pub fn new_name(page: &[u8], gap: usize, author: Author) -> NewName
-    ensures { λ r. ⌜ Says r (newNameOutcome (now (page .entry)) gap author) ⌝ }
+// 1, 2, 4, 16, 12, 6; else of what the new name for a gap is made.
+fn parts_for(page: &[u8], gap: usize, author: Author) -> Parts
+    ensures { λ p. ⌜ Means (now (page .entry)) p (newNameOutcome (now (page .entry)) gap author) ⌝ }
 {
-    if !pages::page_ok(page) {
-        return refused(Refusal::BadLayout);
-    }
-    if !pages::page_rises(page) {
-        return refused(Refusal::NotRising);
+    match pages::look(page) {
+        Seen::Broken => return refused(Refusal::BadLayout),
+        Seen::NotRising => return refused(Refusal::NotRising),
+        Seen::Rising => {}
     }
     if author.node < 1 {
         return refused(Refusal::NoAuthor);
@@ -212,4 +232,43 @@ pub fn new_name(page: &[u8], gap: usize, author: Author) -> NewName
     let a = span_before(page, gap);
     let b = pages::span_of(page, gap);
     new_between(page, a, b, author)
+}
+
+// Tuple k of those that stand at `a` and the two more.
+fn part_at(page: &[u8], p: Parts, k: usize) -> Tuple
+    requires { ⌜ Within (now page) (p .a) × (k < p .a .count + 2) ⌝ }
+    ensures { λ r. ⌜ r ≡ getD (partsOf (now (page .entry)) p) k m ⌝ }
+{
+    if k < p.a.count {
+        return slots::read_tuple(page, p.a.at + TUPLE * k);
+    }
+    if k == p.a.count {
+        return p.first;
+    }
+    p.second
+}
+
+// The name, made where it is returned: one array, with zeros after the tuples.
+fn made(page: &[u8], p: Parts) -> Name
+    requires { ⌜ Stands (now page) p ⌝ }
+    ensures { λ r. ⌜ r ≡ valueOf (madeOf (now (page .entry)) p) ⌝ }
+{
+    let n = p.depth;
+    let mut tuples = [name_values::low_marker(); LIMIT];
+    let mut k: usize = 0;
+    while k < n {
+        tuples[k] = part_at(page, p, k);
+        k += 1;
+    }
+    Name { depth: n, tuples }
+}
+
+// 1, 2, 4, 16, 12, 6; else a new name for the gap before slot `gap`, or after the last.
+pub fn new_name(page: &[u8], gap: usize, author: Author) -> NewName
+    ensures { λ r. ⌜ Says r (newNameOutcome (now (page .entry)) gap author) ⌝ }
+{
+    let parts = parts_for(page, gap, author);
+    let answer = parts.answer;
+    let name = made(page, parts);
+    NewName { answer, name }
 }

@@ -3,6 +3,7 @@
 use mathlib.Core.Path.{_≡_, _∙_, sym}
 use denote.Ref.{now}
 use Rattle.numbers.proofs.read_u16.Reads as read-u16
+use Rattle.numbers.proofs.read_low32.Reads as read-low32
 use Rattle.numbers.proofs.read_u32.Reads as read-u32
 use Rattle.numbers.proofs.read_u64.Reads as read-u64
 use Rattle.numbers.proofs.to_signed.Reads as to-signed
@@ -17,6 +18,9 @@ one p q = p ∙ sym q
 
 pub read-u16-settled : (κs : _) (a : _) (r : _) (s : _) (r' : _) (s' : _) → read-u16.Learnt κs a r s → read-u16.Learnt κs a r' s' → r ≡ r'
 read-u16-settled κs a r s r' s' p q = one p q
+
+pub read-low32-settled : (κs : _) (a : _) (r : _) (s : _) (r' : _) (s' : _) → read-low32.Learnt κs a r s → read-low32.Learnt κs a r' s' → r ≡ r'
+read-low32-settled κs a r s r' s' p q = one p q
 
 pub read-u32-settled : (κs : _) (a : _) (r : _) (s : _) (r' : _) (s' : _) → read-u32.Learnt κs a r s → read-u32.Learnt κs a r' s' → r ≡ r'
 read-u32-settled κs a r s r' s' p q = one p q

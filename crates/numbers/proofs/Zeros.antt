@@ -14,7 +14,7 @@ use Rattle.numbers.proofs.Bools.{and-0, and-1}
 use Rattle.numbers.proofs.Every.{every-split}
 
 -- a number that is zero where both its parts are
-zero-by : (z x y : ℕ) → (z ≡ 0 → x ≡ 0) → (z ≡ 0 → y ≡ 0) → (x ≡ 0 → y ≡ 0 → z ≡ 0) → eqb x 0 && eqb y 0 ≡ eqb z 0
+pub zero-by : (z x y : ℕ) → (z ≡ 0 → x ≡ 0) → (z ≡ 0 → y ≡ 0) → (x ≡ 0 → y ≡ 0 → z ≡ 0) → eqb x 0 && eqb y 0 ≡ eqb z 0
 zero-by z x y f g k = elim (decLe x 0) [
   | yes h ↦
       let h' : x ≡ 0 = omega arith in

@@ -35,7 +35,7 @@ pub fn read_u16(s: &[u8], p: usize) -> u16
 }
 
 // Four bytes as one number, the lowest first: the compiler makes one load of this sum.
-fn read_low32(s: &[u8], p: usize) -> u32
+pub fn read_low32(s: &[u8], p: usize) -> u32
     requires { ⌜ p + 4 ≤ length (now s) ⌝ }
     ensures { λ r. ⌜ r ≡ getD (now (s .entry)) p 0 + getD (now (s .entry)) (p + 1) 0 * 256 + getD (now (s .entry)) (p + 2) 0 * 65536 + getD (now (s .entry)) (p + 3) 0 * 16777216 ⌝ }
 {

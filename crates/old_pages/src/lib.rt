@@ -15,6 +15,7 @@ use answers::Refusal;
 use names::LIMIT;
 use slots::HEAD;
 use slots::SLOT;
+use slots::Seen;
 use slots::TUPLE;
 
 // The most tuples of a name in an old page, and the bytes of an old slot.
@@ -79,11 +80,10 @@ pub fn from_old(old: &[u8], out: &mut [u8]) -> Answer
     ensures { λ r. ⌜ r ≡ fromOldOutcome (now (old .entry)) (length (now (out .entry))) .answer ⌝ }
     ensures { λ r. ⌜ now (out .exit) ≡ leaves (fromOldOutcome (now (old .entry)) (length (now (out .entry)))) (now (out .entry)) ⌝ }
 {
-    if !pages::layout_ok(old, OLD_LIMIT) {
-        return Answer::Refused(Refusal::BadLayout);
-    }
-    if !pages::names_rise(old, OLD_LIMIT) {
-        return Answer::Refused(Refusal::NotRising);
+    match pages::look_over(old, OLD_LIMIT) {
+        Seen::Broken => return Answer::Refused(Refusal::BadLayout),
+        Seen::NotRising => return Answer::Refused(Refusal::NotRising),
+        Seen::Rising => {}
     }
     let n = old.len() / OLD_SLOT;
     if out.len() < SLOT * n {
@@ -98,11 +98,10 @@ pub fn to_old(page: &[u8], out: &mut [u8]) -> Answer
     ensures { λ r. ⌜ r ≡ toOldOutcome (now (page .entry)) (length (now (out .entry))) .answer ⌝ }
     ensures { λ r. ⌜ now (out .exit) ≡ leaves (toOldOutcome (now (page .entry)) (length (now (out .entry)))) (now (out .entry)) ⌝ }
 {
-    if !pages::page_ok(page) {
-        return Answer::Refused(Refusal::BadLayout);
-    }
-    if !pages::page_rises(page) {
-        return Answer::Refused(Refusal::NotRising);
+    match pages::look(page) {
+        Seen::Broken => return Answer::Refused(Refusal::BadLayout),
+        Seen::NotRising => return Answer::Refused(Refusal::NotRising),
+        Seen::Rising => {}
     }
     if !depths_fit(page) {
         return Answer::Refused(Refusal::TooDeep);

@@ -1,5 +1,6 @@
--- What the check of a log has found (`logged`), that its names are names (`log-named`), and where its first position stands (`first-at`). Assumes nothing.
-use mathlib.Core.Path.{_≡_, _∙_, sym}
+-- What the check of a log has found (`logged`), that its names are names (`log-named`), where its first position stands (`first-at`), and that the
+-- k of a case is an index of the log (`case-index`). Assumes nothing.
+use mathlib.Core.Path.{_≡_, refl, _∙_, sym}
 use mathlib.Core.List.{List, [], _∷_, map}
 use mathlib.Core.Bool.{true, _&&_}
 use Prim.Native.Nat.{ℕ, zero, suc, _-_, _/_, _<_, _≤_}
@@ -7,6 +8,7 @@ use native.Mathlib.Omega.{arith}
 use borrow.Author.Tests.{leb-true}
 use lib.Dec.{leb}
 use lib.ListN.{length, take, drop, getD}
+use Rattle.names.specs.declared.Author.{Author}
 use Rattle.names.specs.Ordering.{Row, Rising}
 use Rattle.names.specs.Names.{isName}
 use Rattle.names.proofs.Validity.{valid-name}
@@ -21,9 +23,13 @@ use Rattle.slots.proofs.RoundTrip.{kept}
 use Rattle.pages.specs.Pages.{maxSlots, parts, slotsOf, nameIn, namesOf, keepsLayout, rises, lineIsZero, isLog}
 use Rattle.pages.proofs.SlotBySlot.{length-slots, length-names}
 use Rattle.pages.proofs.RoundTrip.{laid, page-names}
-use Rattle.name_renames.specs.Renaming.{firstPosition}
+use Rattle.name_renames.specs.declared.Case.{Case}
+use Rattle.name_renames.specs.declared.Case.the-variants.{KeepBelow, PutBelow, Logged, Between, PutAbove, KeepAbove}
+use Rattle.name_renames.specs.Renaming.{firstPosition, caseOf}
+use Rattle.name_renames.proofs.CaseByIndex.{logged-within, between-within, above-within}
+use Rattle.one_name.specs.Changes.{indexOf}
 
-pub record Logged (log : Bytes) : Type 0 where
+pub record CheckedLog (log : Bytes) : Type 0 where
   pub layout : keepsLayout log ≡ true
   pub risen : rises log ≡ true
   pub rising : Rising (namesOf log)
@@ -31,7 +37,7 @@ pub record Logged (log : Bytes) : Type 0 where
   pub few : length (namesOf log) ≤ maxSlots
   pub count : length (namesOf log) ≡ length log / slotSize
 
-pub logged : (log : Bytes) → isLog log ≡ true → Logged log
+pub logged : (log : Bytes) → isLog log ≡ true → CheckedLog log
 unfolding isLog
 logged log e =
     let a = keepsLayout log in
@@ -74,3 +80,19 @@ first-at log e =
 
 pub log-named : (log : Bytes) (k : ℕ) → isLog log ≡ true → k < length (namesOf log) → isName (getD (namesOf log) k []) ≡ true
 log-named log k e h = valid-name (page-names log (logged log e .layout) k h)
+
+-- ── the case of a name ──
+
+pub case-index : (log : Bytes) (author : Author) (x : Row) → isLog log ≡ true → (c : Case) → c ≡ caseOf (firstPosition (namesOf log)) author (namesOf log) x → indexOf c < maxSlots
+case-index log author x e c is = go c is refl
+  where
+    within : {k : ℕ} → k < length (namesOf log) → k < maxSlots
+    within h = omega (arith, h, logged log e .few)
+
+    go : {c : Case} (q : Case) → c ≡ caseOf (firstPosition (namesOf log)) author (namesOf log) x → c ≡ q → indexOf q < maxSlots
+    go KeepBelow is f = omega arith
+    go PutBelow is f = omega arith
+    go (Logged k) is f = within (logged-within (firstPosition (namesOf log)) author (namesOf log) x (logged log e .some) is k f)
+    go (Between k) is f = within (between-within (firstPosition (namesOf log)) author (namesOf log) x (logged log e .some) is k f)
+    go (PutAbove k) is f = within (above-within (firstPosition (namesOf log)) author (namesOf log) x (logged log e .some) is k f)
+    go KeepAbove is f = omega arith

@@ -1,3 +1,5 @@
+pub mod RenamedByChange
 pub mod CheckedLog
 pub mod PlaceInLog
+pub mod Unmarked
 pub mod Settled

@@ -5,18 +5,27 @@ use Rattle.names.specs.declared.Joined.{Joined}
 use Rattle.names.specs.Names.{rowOf}
 use denote.Ref.{now}
 use Rattle.numbers.proofs.Settled.{one}
+use Rattle.slots.specs.Tuples.{rowAt}
 use Rattle.pages.specs.Pages.{namesOf}
 use Rattle.one_name.specs.Backs.{shaped}
+use Rattle.one_name.proofs.is_unmarked.Reads as is-unmarked
+use Rattle.one_name.proofs.log_unmarked.Reads as log-unmarked
 use Rattle.one_name.proofs.walk.Reads as walk
 use Rattle.one_name.proofs.gains.Reads as gains
-use Rattle.one_name.proofs.renamed_by.Reads as renamed-by
+use Rattle.one_name.proofs.change_of.Reads as change-of
+use Rattle.one_name.proofs.without.Reads as without
 use Rattle.one_name.proofs.back_of.Reads as back-of
-use Rattle.one_name.proofs.made.Reads as made
 use Rattle.one_name.proofs.rename_name.Reads as rename-name
 use Rattle.one_name.proofs.take_back_name.Reads as take-back-name
 
 abbrev SameGiven : Joined → Joined → Type 0
 SameGiven r r' = (r .fits ≡ r' .fits) × (rowOf (r .name) ≡ rowOf (r' .name))
+
+pub is-unmarked-settled : (κs : _) (a : _) (r : _) (s : _) (r' : _) (s' : _) → is-unmarked.Learnt κs a r s → is-unmarked.Learnt κs a r' s' → r ≡ r'
+is-unmarked-settled κs a r s r' s' p q = one p q
+
+pub log-unmarked-settled : (κs : _) (a : _) (r : _) (s : _) (r' : _) (s' : _) → log-unmarked.Learnt κs a r s → log-unmarked.Learnt κs a r' s' → r ≡ r'
+log-unmarked-settled κs a r s r' s' p q = one p q
 
 pub walk-settled : (κs : _) (a : _) (r : _) (s : _) (r' : _) (s' : _) → walk.Learnt κs a r s → walk.Learnt κs a r' s' → (r .below ≡ r' .below) × (r .case ≡ r' .case)
 walk-settled κs a r s r' s' p q = (one (p .0) (q .0), one (p .1) (q .1))
@@ -24,16 +33,17 @@ walk-settled κs a r s r' s' p q = (one (p .0) (q .0), one (p .1) (q .1))
 pub gains-settled : (κs : _) (a : _) (r : _) (s : _) (r' : _) (s' : _) → gains.Learnt κs a r s → gains.Learnt κs a r' s' → r ≡ r'
 gains-settled κs a r s r' s' p q = one p q
 
-pub renamed-by-settled : (κs : _) (a : _) (r : _) (s : _) (r' : _) (s' : _) → renamed-by.Learnt κs a r s → renamed-by.Learnt κs a r' s' → SameGiven r r'
-renamed-by-settled κs a r s r' s' p q = (one (p .0) (q .0), one (p .1) (q .1))
+pub change-of-settled : (κs : _) (a : _) (r : _) (s : _) (r' : _) (s' : _) → change-of.Learnt κs a r s → change-of.Learnt κs a r' s' → r ≡ r'
+change-of-settled κs a r s r' s' p q = one p q
+
+-- where the tuples stand, up to what stands there
+pub without-settled : (κs : _) (a : _) (r : _) (s : _) (r' : _) (s' : _) → without.Learnt κs a r s → without.Learnt κs a r' s' → rowAt (now (a .0)) r ≡ rowAt (now (a .0)) r'
+without-settled κs a r s r' s' p q = one (p .1) (q .1)
 
 -- the shape, up to the row that it stands for
 pub back-of-settled : (κs : _) (a : _) (r : _) (s : _) (r' : _) (s' : _) → back-of.Learnt κs a r s → back-of.Learnt κs a r' s' →
-    shaped (now (a .1 .1 .0)) (namesOf (now (a .0))) r ≡ shaped (now (a .1 .1 .0)) (namesOf (now (a .0))) r'
+    shaped (rowAt (now (a .1 .1 .0)) (a .1 .1 .1 .0)) (namesOf (now (a .0))) r ≡ shaped (rowAt (now (a .1 .1 .0)) (a .1 .1 .1 .0)) (namesOf (now (a .0))) r'
 back-of-settled κs a r s r' s' p q = one (p .1) (q .1)
-
-pub made-settled : (κs : _) (a : _) (r : _) (s : _) (r' : _) (s' : _) → made.Learnt κs a r s → made.Learnt κs a r' s' → SameGiven r r'
-made-settled κs a r s r' s' p q = (one (p .0) (q .0), one (p .1) (q .1))
 
 pub rename-name-settled : (κs : _) (a : _) (r : _) (s : _) (r' : _) (s' : _) → rename-name.Learnt κs a r s → rename-name.Learnt κs a r' s' → SameGiven r r'
 rename-name-settled κs a r s r' s' p q = (one (p .0) (q .0), one (p .1) (q .1))

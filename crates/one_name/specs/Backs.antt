@@ -1,42 +1,32 @@
--- What the code finds before it makes a name: whether a case of 01's table puts a tuple before the name, and in which of four shapes 01's
--- bullets of taking back end. Document 01, "Renaming one name" and "Taking it back".
-use Prim.Native.Nat.{_<_}
+-- What the code finds of a name before it is taken back: in which of four shapes 01's bullets end. Document 01, "Taking it back". c is the
+-- name, and v, which 01 makes of it, is c without its first tuples: none of them, or one.
+use Prim.Native.Nat.{ℕ, _<_, _≤_}
 use mathlib.Core.Path.{_≡_}
 use mathlib.Core.List.{List, [], _∷_, _++_}
-use mathlib.Core.Bool.{Bool, true, false}
-use lib.ListN.{length, getD}
+use lib.ListN.{length, getD, drop}
 use Rattle.names.specs.Ordering.{Row}
 use Rattle.names.specs.Names.{m, M, oneBelow}
-use Rattle.numbers.specs.Bytes.{Bytes}
-use Rattle.slots.specs.Tuples.{rowAt, Lies}
-use Rattle.name_renames.specs.declared.Case.{Case}
-use Rattle.name_renames.specs.declared.Case.the-variants.{KeepBelow, PutBelow, Logged, Between, PutAbove, KeepAbove}
 use Rattle.one_name.specs.declared.Back.{Back}
 use Rattle.one_name.specs.declared.Back.the-variants.{Restored, Own, Behind, Ahead}
 
--- the cases that put a tuple before the name: "(p, A, s, −1)·x", "N(k)·x", "N(n−1)·x"
-abbrev pub gains : Case → Bool
-gains KeepBelow = false
-gains PutBelow = true
-gains (Logged k) = false
-gains (Between k) = true
-gains (PutAbove k) = true
-gains KeepAbove = false
-
-module _ (s : Bytes) (log : List Row) where
-  -- "r(k)", "v", "r(k)·m·v", "one below r(k), then M, then v", where v stands in s
+module _ (c : Row) (log : List Row) where
+  -- "r(k)", "v", "r(k)·m·v", "one below r(k), then M, then v"
   abbrev pub shaped : Back → Row
   shaped (Restored k) = getD log k []
-  shaped (Own v) = rowAt s v
-  shaped (Behind k v) = getD log k [] ++ (m ∷ rowAt s v)
-  shaped (Ahead k v) = oneBelow (getD log k []) ++ (M ∷ rowAt s v)
+  shaped (Own cut) = drop cut c
+  shaped (Behind k cut) = getD log k [] ++ (m ∷ drop cut c)
+  shaped (Ahead k cut) = oneBelow (getD log k []) ++ (M ∷ drop cut c)
 
-  -- r(k) is in the log, and v lies in s
+  -- c has so many tuples, of which v is without none or one
+  abbrev pub Cuts : ℕ → Type 0
+  Cuts cut = (cut ≤ length c) × (cut ≤ 1)
+
+  -- r(k) is in the log, and v is of c
   abbrev pub Stands : Back → Type 0
   Stands (Restored k) = k < length log
-  Stands (Own v) = Lies s v
-  Stands (Behind k v) = (k < length log) × Lies s v
-  Stands (Ahead k v) = (k < length log) × Lies s v
+  Stands (Own cut) = Cuts cut
+  Stands (Behind k cut) = (k < length log) × Cuts cut
+  Stands (Ahead k cut) = (k < length log) × Cuts cut
 
   -- it stands there, and its name is a
   abbrev pub Means : Back → Row → Type 0

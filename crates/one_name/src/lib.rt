@@ -1,5 +1,5 @@
-// One name renamed and one taken back, over a log in its bytes: what becomes of a name is found where the name stands in bytes, and the name
-// that comes of it is made by value. Document 01, "Renaming one name" and "Taking it back"; the definitions are those of crates/name_renames.
+// One name renamed and one taken back, over a log in its bytes: what becomes of a name is found where the name stands in bytes. What comes of it
+// is made by value here, and as a slot by crates/renamed_slots. Document 01, "Renaming one name" and "Taking it back"; the definitions are those of crates/name_renames.
 ghost use mathlib.Core.Path.{_≡_};
 ghost use mathlib.Core.List.{[], _∷_, _++_};
 ghost use mathlib.Core.Bool.{true};
@@ -13,7 +13,10 @@ ghost use Rattle.slots.specs.Tuples.{tupleSize, rowAt, Lies};
 ghost use Rattle.pages.specs.Pages.{maxSlots, namesOf, rises, isLog};
 ghost use Rattle.pages.specs.Places.{below, placeOf};
 ghost use Rattle.name_renames.specs.Renaming.{firstPosition, lead as leadTuple, N, caseOf, ifBelow, rename as renameRow, under as underRow, over as overRow, backBetween, stripBelow, stripAbove, takeBack as takeBackRow};
-ghost use Rattle.one_name.specs.Backs.{gains as gainsOne, shaped, Stands, Means};
+ghost use Rattle.numbers.specs.Lists.{every};
+ghost use Rattle.one_name.specs.Markers.{unmarked};
+ghost use Rattle.one_name.specs.Changes.{indexOf, changeOf, changedBy, gains as gainsOne};
+ghost use Rattle.one_name.specs.Backs.{shaped, Stands, Means};
 use name_renames::Case;
 use names::Author;
 use names::Joined;
@@ -80,12 +83,42 @@ fn whole(x: Name) -> Joined
     }
 }
 
-// A name that stands in s, as it stands.
-fn kept(s: &[u8], x: Span) -> Joined
+// ── end markers ──
+
+// No end marker is in a name that stands in s.
+pub fn is_unmarked(s: &[u8], x: Span) -> bool
     requires { ⌜ Lies (now s) x ⌝ }
-    ensures { λ r. ⌜ Gives r (rowAt (now (s .entry)) x) ⌝ }
+    ensures { λ r. ⌜ r ≡ unmarked (rowAt (now (s .entry)) x) ⌝ }
 {
-    whole(slots::read_row(s, x.at, x.count))
+    let n = x.count;
+    let p = x.at;
+    let mut i: usize = 0;
+    loop {
+        if n <= i {
+            break true;
+        }
+        if slots::marker_at(s, p + TUPLE * i) {
+            break false;
+        }
+        i += 1;
+    }
+}
+
+// No end marker is in a name of the log.
+pub fn log_unmarked(log: &[u8]) -> bool
+    ensures { λ r. ⌜ r ≡ every unmarked (namesOf (now (log .entry))) ⌝ }
+{
+    let n = log.len() / SLOT;
+    let mut k: usize = 0;
+    loop {
+        if n <= k {
+            break true;
+        }
+        if !is_unmarked(log, pages::span_of(log, k)) {
+            break false;
+        }
+        k += 1;
+    }
 }
 
 // ── renaming one name: the case ──
@@ -164,7 +197,7 @@ pub struct Walked {
 // The case of x, where j names of the log are known to be below x: the walk along the log goes on from there.
 pub fn walk(log: &[u8], author: Author, s: &[u8], x: Span, j: usize) -> Walked
     requires { ⌜ (isLog (now log) ≡ true) × Lies (now s) x × (j ≤ below (rowAt (now s) x) (namesOf (now log))) ⌝ }
-    ensures { λ r. ⌜ (r .below ≡ below (rowAt (now (s .entry)) x) (namesOf (now (log .entry)))) × (r .case ≡ caseOf (firstPosition (namesOf (now (log .entry)))) author (namesOf (now (log .entry))) (rowAt (now (s .entry)) x)) ⌝ }
+    ensures { λ r. ⌜ (r .below ≡ below (rowAt (now (s .entry)) x) (namesOf (now (log .entry)))) × (r .case ≡ caseOf (firstPosition (namesOf (now (log .entry)))) author (namesOf (now (log .entry))) (rowAt (now (s .entry)) x)) × (indexOf (r .case) < maxSlots) ⌝ }
 {
     let place = place_from(log, s, x, j);
     let case = case_at(log, author, place, s, x);
@@ -174,43 +207,53 @@ pub fn walk(log: &[u8], author: Author, s: &[u8], x: Span, j: usize) -> Walked
     }
 }
 
-// The case puts a tuple before the name.
-pub fn gains(case: Case) -> bool
-    ensures { λ r. ⌜ r ≡ gainsOne case ⌝ }
+// What a case of 01's table does to a name x.
+pub enum Change {
+    // x stays.
+    Kept,
+    // That tuple takes its place.
+    Alone(Tuple),
+    // That tuple is put before it.
+    Led(Tuple),
+}
+
+// What that case does to a name.
+pub fn change_of(log: &[u8], author: Author, case: Case) -> Change
+    requires { ⌜ (isLog (now log) ≡ true) × (indexOf case < maxSlots) ⌝ }
+    ensures { λ r. ⌜ r ≡ changeOf (firstPosition (namesOf (now (log .entry)))) author case ⌝ }
 {
+    let p = first_position(log);
     match case {
-        Case::KeepBelow => false,
-        Case::PutBelow => true,
-        Case::Logged(_) => false,
-        Case::Between(_) => true,
-        Case::PutAbove(_) => true,
-        Case::KeepAbove => false,
+        Case::KeepBelow => Change::Kept,
+        Case::PutBelow => Change::Led(lead(p, author, -1)),
+        Case::Logged(k) => Change::Alone(numbered(p, author, k)),
+        Case::Between(k) => Change::Led(numbered(p, author, k)),
+        Case::PutAbove(k) => Change::Led(numbered(p, author, k)),
+        Case::KeepAbove => Change::Kept,
+    }
+}
+
+// A tuple is put before the name.
+pub fn gains(change: Change) -> bool
+    ensures { λ r. ⌜ r ≡ gainsOne change ⌝ }
+{
+    match change {
+        Change::Kept => false,
+        Change::Alone(_) => false,
+        Change::Led(_) => true,
     }
 }
 
 // ── renaming one name ──
 
-// The tuple t, then a name that stands in s.
-fn led(t: Tuple, s: &[u8], x: Span) -> Joined
-    requires { ⌜ Lies (now s) x ⌝ }
-    ensures { λ r. ⌜ Gives r (t ∷ rowAt (now (s .entry)) x) ⌝ }
+// x changed.
+fn changed(change: Change, x: Name) -> Joined
+    ensures { λ r. ⌜ Gives r (changedBy change (rowOf x)) ⌝ }
 {
-    name_values::join_by(name_values::empty(), t, slots::read_row(s, x.at, x.count))
-}
-
-// What that case makes of x.
-pub fn renamed_by(log: &[u8], author: Author, case: Case, s: &[u8], x: Span) -> Joined
-    requires { ⌜ (isLog (now log) ≡ true) × Lies (now s) x × (case ≡ caseOf (firstPosition (namesOf (now log))) author (namesOf (now log)) (rowAt (now s) x)) ⌝ }
-    ensures { λ r. ⌜ Gives r (renameRow author (namesOf (now (log .entry))) (rowAt (now (s .entry)) x)) ⌝ }
-{
-    let p = first_position(log);
-    match case {
-        Case::KeepBelow => kept(s, x),
-        Case::PutBelow => led(lead(p, author, -1), s, x),
-        Case::Logged(k) => whole(name_values::one(numbered(p, author, k))),
-        Case::Between(k) => led(numbered(p, author, k), s, x),
-        Case::PutAbove(k) => led(numbered(p, author, k), s, x),
-        Case::KeepAbove => kept(s, x),
+    match change {
+        Change::Kept => whole(x),
+        Change::Alone(t) => whole(name_values::one(t)),
+        Change::Led(t) => name_values::join_by(name_values::empty(), t, x),
     }
 }
 
@@ -223,21 +266,21 @@ pub fn rename_name(log: &[u8], author: Author, x: Name) -> Joined
     let at = stand(x, &mut bytes);
     let w = walk(log, author, &bytes, at, 0);
     let case = w.case;
-    renamed_by(log, author, case, &bytes, at)
+    changed(change_of(log, author, case), x)
 }
 
 // ── taking one name back: the shape ──
 
-// What 01's bullets come to, where v stands in some bytes.
+// What 01's bullets come to. v is c without its first tuples, so many: c itself, or what follows its first tuple.
 pub enum Back {
     // r(k)
     Restored(usize),
     // v
-    Own(Span),
+    Own(usize),
     // r(k)·m·v
-    Behind(usize, Span),
+    Behind(usize, usize),
     // one below r(k), then M, then v
-    Ahead(usize, Span),
+    Ahead(usize, usize),
 }
 
 // A name that stands in s is below the name of one tuple.
@@ -271,84 +314,89 @@ fn begins(s: &[u8], x: Span, t: Tuple) -> bool
     names::is_same(slots::compare_to_one(s, x.at, 1, t))
 }
 
-// The tuples after the first.
-fn tail(s: &[u8], x: Span) -> Span
-    requires { ⌜ Lies (now s) x × (1 ≤ x .count) ⌝ }
-    ensures { λ r. ⌜ Lies (now (s .entry)) r × (rowAt (now (s .entry)) r ≡ drop 1 (rowAt (now (s .entry)) x)) ⌝ }
+// The tuples of c after the first `cut`.
+pub fn without(s: &[u8], c: Span, cut: usize) -> Span
+    requires { ⌜ Lies (now s) c × (cut ≤ c .count) ⌝ }
+    ensures { λ r. ⌜ Lies (now (s .entry)) r × (rowAt (now (s .entry)) r ≡ drop cut (rowAt (now (s .entry)) c)) × (r .count ≡ c .count - cut) ⌝ }
 {
-    let at = x.at + TUPLE;
-    let count = x.count - 1;
+    let at = c.at + TUPLE * cut;
+    let count = c.count - cut;
     Span { at, count }
 }
 
-// "If v is below r0 the result is v, else one below r0, then M, then v", with r(k) for r0.
-fn under(log: &[u8], k: usize, s: &[u8], v: Span) -> Back
-    requires { ⌜ (k < length (namesOf (now log))) × Lies (now s) v ⌝ }
-    ensures { λ r. ⌜ Means (now (s .entry)) (namesOf (now (log .entry))) r (underRow (getD (namesOf (now (log .entry))) k []) (rowAt (now (s .entry)) v)) ⌝ }
+// A name that stands in s against r(k).
+fn against(log: &[u8], k: usize, s: &[u8], v: Span) -> Order
+    requires { ⌜ Lies (now s) v ⌝ }
+    ensures { λ r. ⌜ r ≡ compareRows (rowAt (now (s .entry)) v) (getD (namesOf (now (log .entry))) k []) ⌝ }
 {
     let r = pages::span_of(log, k);
-    match slots::compare_rows(s, v.at, v.count, log, r.at, r.count) {
-        Order::Less => Back::Own(v),
-        Order::Same => Back::Ahead(k, v),
-        Order::More => Back::Ahead(k, v),
+    slots::compare_rows(s, v.at, v.count, log, r.at, r.count)
+}
+
+// "If v is below r0 the result is v, else one below r0, then M, then v", with r(k) for r0.
+fn under(log: &[u8], k: usize, s: &[u8], c: Span, cut: usize) -> Back
+    requires { ⌜ (k < length (namesOf (now log))) × Lies (now s) c × (cut ≤ c .count) × (cut ≤ 1) ⌝ }
+    ensures { λ r. ⌜ Means (rowAt (now (s .entry)) c) (namesOf (now (log .entry))) r (underRow (getD (namesOf (now (log .entry))) k []) (drop cut (rowAt (now (s .entry)) c))) ⌝ }
+{
+    match against(log, k, s, without(s, c, cut)) {
+        Order::Less => Back::Own(cut),
+        Order::Same => Back::Ahead(k, cut),
+        Order::More => Back::Ahead(k, cut),
     }
 }
 
 // "If v is above r(n−1) the result is v, else r(n−1)·m·v"; k is n − 1.
-fn over(log: &[u8], k: usize, s: &[u8], v: Span) -> Back
-    requires { ⌜ (k < length (namesOf (now log))) × Lies (now s) v ⌝ }
-    ensures { λ r. ⌜ Means (now (s .entry)) (namesOf (now (log .entry))) r (overRow (getD (namesOf (now (log .entry))) k []) (rowAt (now (s .entry)) v) (rowAt (now (s .entry)) v)) ⌝ }
+fn over(log: &[u8], k: usize, s: &[u8], c: Span, cut: usize) -> Back
+    requires { ⌜ (k < length (namesOf (now log))) × Lies (now s) c × (cut ≤ c .count) × (cut ≤ 1) ⌝ }
+    ensures { λ r. ⌜ Means (rowAt (now (s .entry)) c) (namesOf (now (log .entry))) r (overRow (getD (namesOf (now (log .entry))) k []) (drop cut (rowAt (now (s .entry)) c)) (drop cut (rowAt (now (s .entry)) c))) ⌝ }
 {
-    let r = pages::span_of(log, k);
-    match slots::compare_rows(s, v.at, v.count, log, r.at, r.count) {
-        Order::Less => Back::Behind(k, v),
-        Order::Same => Back::Behind(k, v),
-        Order::More => Back::Own(v),
+    match against(log, k, s, without(s, c, cut)) {
+        Order::Less => Back::Behind(k, cut),
+        Order::Same => Back::Behind(k, cut),
+        Order::More => Back::Own(cut),
     }
 }
 
 // "c between N(k) and N(k+1), so c = N(k)·t: if t is not above r(k), r(k)·m·t. If t is not below r(k+1), one below r(k+1),
 // then M, then t. Otherwise t."
-fn between(log: &[u8], k: usize, s: &[u8], t: Span) -> Back
-    requires { ⌜ (k + 1 < length (namesOf (now log))) × Lies (now s) t ⌝ }
-    ensures { λ r. ⌜ Means (now (s .entry)) (namesOf (now (log .entry))) r (backBetween (getD (namesOf (now (log .entry))) k []) (getD (namesOf (now (log .entry))) (k + 1) []) (rowAt (now (s .entry)) t)) ⌝ }
+fn between(log: &[u8], k: usize, s: &[u8], c: Span) -> Back
+    requires { ⌜ (k + 1 < length (namesOf (now log))) × Lies (now s) c × (1 ≤ c .count) ⌝ }
+    ensures { λ r. ⌜ Means (rowAt (now (s .entry)) c) (namesOf (now (log .entry))) r (backBetween (getD (namesOf (now (log .entry))) k []) (getD (namesOf (now (log .entry))) (k + 1) []) (drop 1 (rowAt (now (s .entry)) c))) ⌝ }
 {
-    let r = pages::span_of(log, k);
-    match slots::compare_rows(s, t.at, t.count, log, r.at, r.count) {
-        Order::Less => Back::Behind(k, t),
-        Order::Same => Back::Behind(k, t),
-        Order::More => under(log, k + 1, s, t),
+    match against(log, k, s, without(s, c, 1)) {
+        Order::Less => Back::Behind(k, 1),
+        Order::Same => Back::Behind(k, 1),
+        Order::More => under(log, k + 1, s, c, 1),
     }
 }
 
-// "v is t where c = (p, A, s, −1)·t with t not empty and t not below N(0); otherwise v is c." An empty t is below N(0).
-fn strip_below(p: u16, author: Author, s: &[u8], c: Span) -> Span
+// "v is t where c = (p, A, s, −1)·t with t not empty and t not below N(0); otherwise v is c." How many of c's tuples v is without. An
+// empty t is below N(0).
+fn strip_below(p: u16, author: Author, s: &[u8], c: Span) -> usize
     requires { ⌜ Lies (now s) c ⌝ }
-    ensures { λ r. ⌜ Lies (now (s .entry)) r × (rowAt (now (s .entry)) r ≡ stripBelow p author (rowAt (now (s .entry)) c)) ⌝ }
+    ensures { λ r. ⌜ (r ≤ c .count) × (r ≤ 1) × (drop r (rowAt (now (s .entry)) c) ≡ stripBelow p author (rowAt (now (s .entry)) c)) ⌝ }
 {
     if !begins(s, c, lead(p, author, -1)) {
-        return c;
+        return 0;
     }
-    let t = tail(s, c);
-    if is_below(s, t, lead(p, author, 0)) {
-        return c;
+    if is_below(s, without(s, c, 1), lead(p, author, 0)) {
+        return 0;
     }
-    t
+    1
 }
 
 // "v is t where c = N(n−1)·t and t is below N(n−1); otherwise v is c"; k is n − 1.
-fn strip_above(p: u16, author: Author, k: usize, s: &[u8], c: Span) -> Span
+fn strip_above(p: u16, author: Author, k: usize, s: &[u8], c: Span) -> usize
     requires { ⌜ (k < maxSlots) × Lies (now s) c ⌝ }
-    ensures { λ r. ⌜ Lies (now (s .entry)) r × (rowAt (now (s .entry)) r ≡ stripAbove p author k (rowAt (now (s .entry)) c)) ⌝ }
+    ensures { λ r. ⌜ (r ≤ c .count) × (r ≤ 1) × (drop r (rowAt (now (s .entry)) c) ≡ stripAbove p author k (rowAt (now (s .entry)) c)) ⌝ }
 {
     if !begins(s, c, numbered(p, author, k)) {
-        return c;
+        return 0;
     }
-    let t = tail(s, c);
-    if is_below(s, t, numbered(p, author, k)) {
-        return t;
+    if is_below(s, without(s, c, 1), numbered(p, author, k)) {
+        return 1;
     }
-    c
+    0
 }
 
 fn natural(z: i32) -> usize
@@ -371,32 +419,41 @@ fn index_of(s: &[u8], c: Span) -> usize
 fn back_within(log: &[u8], author: Author, s: &[u8], c: Span) -> Back
     requires { ⌜ (isLog (now log) ≡ true) × Lies (now s) c ⌝ }
     requires { ⌜ (N (firstPosition (namesOf (now log))) author 0 ≤ⁿ rowAt (now s) c) × (rowAt (now s) c ≤ⁿ N (firstPosition (namesOf (now log))) author (length (namesOf (now log)) - 1)) ⌝ }
-    ensures { λ r. ⌜ Means (now (s .entry)) (namesOf (now (log .entry))) r (takeBackRow author (namesOf (now (log .entry))) (rowAt (now (s .entry)) c)) ⌝ }
+    ensures { λ r. ⌜ Means (rowAt (now (s .entry)) c) (namesOf (now (log .entry))) r (takeBackRow author (namesOf (now (log .entry))) (rowAt (now (s .entry)) c)) ⌝ }
 {
     let k = index_of(s, c);
     if c.count < 2 {
         return Back::Restored(k);
     }
-    between(log, k, s, tail(s, c))
+    between(log, k, s, c)
 }
 
 // What becomes of c, a name that stands in s.
 pub fn back_of(log: &[u8], author: Author, s: &[u8], c: Span) -> Back
     requires { ⌜ (isLog (now log) ≡ true) × Lies (now s) c ⌝ }
-    ensures { λ r. ⌜ Means (now (s .entry)) (namesOf (now (log .entry))) r (takeBackRow author (namesOf (now (log .entry))) (rowAt (now (s .entry)) c)) ⌝ }
+    ensures { λ r. ⌜ Means (rowAt (now (s .entry)) c) (namesOf (now (log .entry))) r (takeBackRow author (namesOf (now (log .entry))) (rowAt (now (s .entry)) c)) ⌝ }
 {
     let p = first_position(log);
     if is_below(s, c, lead(p, author, 0)) {
-        return under(log, 0, s, strip_below(p, author, s, c));
+        return under(log, 0, s, c, strip_below(p, author, s, c));
     }
     let last = log.len() / SLOT - 1;
     if is_above(s, c, numbered(p, author, last)) {
-        return over(log, last, s, strip_above(p, author, last, s, c));
+        return over(log, last, s, c, strip_above(p, author, last, s, c));
     }
     back_within(log, author, s, c)
 }
 
 // ── taking one name back ──
+
+// The tuples of c after the first `cut`, by value.
+fn rest(s: &[u8], c: Span, cut: usize) -> Name
+    requires { ⌜ Lies (now s) c × (cut ≤ c .count) ⌝ }
+    ensures { λ r. ⌜ rowOf r ≡ drop cut (rowAt (now (s .entry)) c) ⌝ }
+{
+    let v = without(s, c, cut);
+    slots::read_row(s, v.at, v.count)
+}
 
 // r·m·v
 fn behind(r: Name, v: Name) -> Joined
@@ -414,15 +471,15 @@ fn ahead(r: Name, v: Name) -> Joined
 }
 
 // The name of that shape.
-pub fn made(log: &[u8], s: &[u8], back: Back) -> Joined
-    requires { ⌜ (isLog (now log) ≡ true) × Stands (now s) (namesOf (now log)) back ⌝ }
-    ensures { λ r. ⌜ Gives r (shaped (now (s .entry)) (namesOf (now (log .entry))) back) ⌝ }
+fn made(log: &[u8], s: &[u8], c: Span, back: Back) -> Joined
+    requires { ⌜ (isLog (now log) ≡ true) × Lies (now s) c × Stands (rowAt (now s) c) (namesOf (now log)) back ⌝ }
+    ensures { λ r. ⌜ Gives r (shaped (rowAt (now (s .entry)) c) (namesOf (now (log .entry))) back) ⌝ }
 {
     match back {
         Back::Restored(k) => whole(pages::name_of(log, k)),
-        Back::Own(v) => kept(s, v),
-        Back::Behind(k, v) => behind(pages::name_of(log, k), slots::read_row(s, v.at, v.count)),
-        Back::Ahead(k, v) => ahead(pages::name_of(log, k), slots::read_row(s, v.at, v.count)),
+        Back::Own(cut) => whole(rest(s, c, cut)),
+        Back::Behind(k, cut) => behind(pages::name_of(log, k), rest(s, c, cut)),
+        Back::Ahead(k, cut) => ahead(pages::name_of(log, k), rest(s, c, cut)),
     }
 }
 
@@ -434,5 +491,5 @@ pub fn take_back_name(log: &[u8], author: Author, c: Name) -> Joined
     let mut bytes = [0; ROW];
     let at = stand(c, &mut bytes);
     let back = back_of(log, author, &bytes, at);
-    made(log, &bytes, back)
+    made(log, &bytes, at, back)
 }

@@ -4,5 +4,6 @@ pub mod Carried
 pub mod SlotBySlot
 pub mod Books
 pub mod FirstRefusal
+pub mod BackPairs
 pub mod LastRefusal
 pub mod Settled

@@ -1,24 +1,25 @@
 -- A loop along a page and its log: what a turn says of the tests of results, and how far the log has been walked. Assumes nothing.
 use mathlib.Core.Path.{_≡_, refl, _∙_, sym, ap}
 use mathlib.Core.List.{List, [], _∷_, map}
-use mathlib.Core.Bool.{Bool, true, _&&_, and-assoc, and-true}
-use Prim.Native.Nat.{ℕ, _+_, _*_, _/_, _<_, _≤_}
+use mathlib.Core.Bool.{Bool, true, _&&_, _||_, and-assoc, and-true}
+use Prim.Native.Nat.{ℕ, zero, suc, _+_, _-_, _*_, _/_, _<_, _≤_}
 use native.Mathlib.Numerals.{add-one}
 use native.Mathlib.Omega.{arith}
+use borrow.Author.Tests.{le-ltb}
+use lib.Dec.{ltb}
 use lib.ListN.{length, getD, drop, length-map, drop-of-length-le, List·getD-map}
 use lib.Seq.{drop-cons}
 use Rattle.names.specs.Ordering.{Row, compareRows, isLess, rising}
-use Rattle.names.proofs.Laws.{rising-Rising, row-less}
-use Rattle.names.proofs.Validity.{Valid}
-use Rattle.name_renames.proofs.Validity.{valid-nonempty}
-use Rattle.name_renames.proofs.Lists.{All, nil, cons}
+use Rattle.names.proofs.Laws.{rising-Rising}
 use Rattle.numbers.specs.Bytes.{Bytes}
 use Rattle.numbers.specs.Lists.{every}
-use Rattle.slots.specs.Slots.{slotSize, nameOf}
+use Rattle.names.specs.Names.{limit}
+use Rattle.slots.specs.Slots.{slotSize, nameOf, keepsSlot}
 use Rattle.numbers.proofs.Every.{every-at, every-end}
-use Rattle.pages.specs.Pages.{namesOf, rises}
+use Rattle.pages.specs.Pages.{namesOf, keepsLayout, rises}
 use Rattle.pages.specs.Places.{below}
-use Rattle.pages.proofs.SlotBySlot.{lent, lent-name, length-names, rising-cons}
+use Rattle.pages.proofs.SlotBySlot.{lent, lent-name, lent-keeps, length-names, rising-cons}
+use Rattle.pages.proofs.RoundTrip.{laid}
 use Rattle.pages.proofs.FindByHalving.{index-below}
 use Rattle.one_name.proofs.PlaceInLog.{place-grows}
 
@@ -29,6 +30,10 @@ module _ (page : Bytes) (i : ℕ) (h : i < length page / slotSize) where
 
   pub within-names : i < length (namesOf page)
   within-names = omega (arith, length-names page (length page / slotSize))
+
+  -- .. which keeps the layout
+  pub keeps-lent : keepsLayout page ≡ true → keepsSlot (lent page (slotSize * i)) ≡ true
+  keeps-lent k = lent-keeps limit page (length page / slotSize) i h (laid page k .good)
 
   -- the test t of what f makes of name i, and what is left after it
   pub result-at : (f : Row → Row) (t : Row → Bool) {b : Bool} → b ≡ t (f (getD (namesOf page) i [])) →
@@ -52,27 +57,53 @@ results-end page i f t h = every-end t (map f (namesOf page)) i (omega (arith, l
 
 -- ── results that rise ──
 
--- the result before result i is x, and b says whether x is below it and it went so before
-pub rising-turn : (page : Bytes) (i : ℕ) → i < length page / slotSize → (f : Row → Row) (went b : Bool) (x y : Row) →
-    y ≡ f (getD (namesOf page) i []) → b ≡ (went && isLess (compareRows x y)) →
-    b && rising (y ∷ drop (i + 1) (map f (namesOf page))) ≡ went && rising (x ∷ drop i (map f (namesOf page)))
-rising-turn page i h f went b x y e q =
-    let all = map f (namesOf page) in
-    let l : i < length all = omega (arith, length-map (namesOf page) f, within-names page i h) in
-    let r : getD all i (f []) ≡ y = List·getD-map f (namesOf page) i [] ∙ sym e in
-    let d : drop i all ≡ y ∷ drop (i + 1) all = drop-cons all i (f []) l ∙ (λ k. r k ∷ drop (sym (add-one i) k) all) in
-    ap (λ (t : Bool). t && rising (y ∷ drop (i + 1) all)) q
-    ∙ and-assoc went (isLess (compareRows x y)) (rising (y ∷ drop (i + 1) all))
-    ∙ ap (λ (t : Bool). went && t) (sym (ap (λ (m : List Row). rising (x ∷ m)) d ∙ rising-cons x y (drop (i + 1) all)))
-
-pub rising-ends : (page : Bytes) (i : ℕ) → length page / slotSize ≤ i → (f : Row → Row) (went : Bool) (x : Row) → went ≡ went && rising (x ∷ drop i (map f (namesOf page)))
+none : rising [] ≡ true
 unfolding rising
-rising-ends page i h f went x =
-    let e = drop-of-length-le (map f (namesOf page)) {i = i} (omega (arith, length-map (namesOf page) f, length-names page (length page / slotSize))) in
-    sym (ap (λ (m : List Row). went && rising (x ∷ m)) e ∙ and-true went)
+none = refl
 
--- before the first there is none
-pub rising-first : (l : List Row) → All Valid l → rising ([] ∷ l) ≡ rising l
+one : (x : Row) → rising (x ∷ []) ≡ true
 unfolding rising
-rising-first [] nil = refl
-rising-first (x ∷ l) (cons v vs) = rw (row-less (valid-nonempty v))
+one x = refl
+
+module _ (page : Bytes) (f : Row → Row) where
+  -- the results, and the one at k
+  abbrev pub results : List Row
+  results = map f (namesOf page)
+
+  result-is : (k : ℕ) → getD results k (f []) ≡ f (getD (namesOf page) k [])
+  result-is k = List·getD-map f (namesOf page) k []
+
+  from : (k : ℕ) → k < length page / slotSize → drop k results ≡ f (getD (namesOf page) k []) ∷ drop (k + 1) results
+  from k h =
+      let l : k < length results = omega (arith, length-map (namesOf page) f, within-names page k h) in
+      drop-cons results k (f []) l ∙ (λ i. result-is k i ∷ drop (sym (add-one k) i) results)
+
+  -- of results before i it is known that they rise; b says it of the one at i too, where it is not the first
+  pub rising-turn : (i : ℕ) → i < length page / slotSize → (went b : Bool) →
+      b ≡ went && (ltb i 1 || isLess (compareRows (f (getD (namesOf page) (i - 1) [])) (f (getD (namesOf page) i [])))) →
+      b && rising (drop (i + 1 - 1) results) ≡ went && rising (drop (i - 1) results)
+  rising-turn zero h went b e = ap (λ (t : Bool). t && rising results) (e ∙ and-true went)
+  rising-turn (suc k) h went b e =
+      let x = f (getD (namesOf page) k []) in
+      let y = f (getD (namesOf page) (suc k) []) in
+      let rest = drop (suc k + 1) results in
+      let q : suc k - 1 ≡ k = omega arith in
+      let r : suc k + 1 - 1 ≡ suc k = omega arith in
+      let s = from k (omega arith) ∙ ap (λ (n : ℕ). x ∷ drop n results) (add-one k) ∙ ap (λ (l : List Row). x ∷ l) (from (suc k) h) in
+      (λ i. e i && rising (drop (r i) results))
+      ∙ (λ i. (went && (le-ltb (suc k) 1 (omega arith) i || isLess (compareRows (f (getD (namesOf page) (q i) [])) y))) && rising (drop (suc k) results))
+      ∙ ap (λ (l : List Row). (went && isLess (compareRows x y)) && rising l) (from (suc k) h)
+      ∙ and-assoc went (isLess (compareRows x y)) (rising (y ∷ rest))
+      ∙ ap (λ (t : Bool). went && t) (sym (rising-cons x y rest))
+      ∙ (λ i. went && rising (sym (ap (λ (n : ℕ). drop n results) q ∙ s) i))
+
+  -- all are passed
+  pub rising-ends : (i : ℕ) → i ≡ length page / slotSize → (went : Bool) → went ≡ went && rising (drop (i - 1) results)
+  rising-ends i e went = sym (ap (λ (t : Bool). went && t) (go i e) ∙ and-true went)
+    where
+      go : (i : ℕ) → i ≡ length page / slotSize → rising (drop (i - 1) results) ≡ true
+      go zero e = ap rising (drop-of-length-le results {i = 0} (omega (arith, length-map (namesOf page) f, length-names page (length page / slotSize)))) ∙ none
+      go (suc k) e =
+          let q : suc k - 1 ≡ k = omega arith in
+          let d : drop (k + 1) results ≡ [] = drop-of-length-le results {i = k + 1} (omega (arith, length-map (namesOf page) f, length-names page (length page / slotSize))) in
+          ap rising (ap (λ (n : ℕ). drop n results) q ∙ from k (omega arith) ∙ ap (λ (l : List Row). f (getD (namesOf page) k []) ∷ l) d) ∙ one (f (getD (namesOf page) k []))

@@ -2,14 +2,13 @@
 -- (`standing`) does not change in a turn of the loop. Assumes nothing.
 use mathlib.Core.Path.{_≡_, refl, _∙_, sym, ap}
 use mathlib.Core.List.{List, [], map, flatten}
-use mathlib.Core.Bool.{Bool, true, cond}
+use mathlib.Core.Bool.{true}
 use Prim.Native.Nat.{ℕ, _+_, _*_, _/_, _<_, _≤_}
 use native.Mathlib.Omega.{arith}
 use borrow.Author.Tests.{leb-true}
 use lib.ListN.{length, getD, length-map, List·getD-map}
-use Rattle.names.specs.declared.Joined.{Joined}
 use Rattle.names.specs.Ordering.{Row}
-use Rattle.names.specs.Names.{limit, rowOf, fits, fitted, Gives}
+use Rattle.names.specs.Names.{limit, fits}
 use Rattle.numbers.specs.Bytes.{Bytes, put}
 use Rattle.slots.specs.Slots.{Slot, slotSize, nameOf, lineOf, slotOf, slotBytes}
 use Rattle.numbers.proofs.Every.{every-each}
@@ -44,19 +43,13 @@ module _ (f : Row → Row) (page : Bytes) where
     abbrev piece : Bytes
     piece = slotBytes (record { line = lineOf (lent page (slotSize * i)); name = f (nameOf (lent page (slotSize * i))) })
 
-    fit : fits (f (nameOf (lent page (slotSize * i)))) ≡ true
+    pub fit : fits (f (nameOf (lent page (slotSize * i)))) ≡ true
     fit =
         let n = within-names page i h in
         let l : i < length (map f (namesOf page)) = omega (arith, length-map (namesOf page) f) in
         ap (λ (a : Row). fits (f a)) (name-lent page i h)
         ∙ ap fits (sym (List·getD-map f (namesOf page) i []))
         ∙ every-each fits (map f (namesOf page)) i (f []) l t
-
-    -- the name that the code has made
-    pub name-made : (r : Joined) (x : Row) → x ≡ nameOf (lent page (slotSize * i)) → Gives r (f x) → rowOf (r .name) ≡ f (nameOf (lent page (slotSize * i)))
-    name-made r x e g =
-        let y = f (nameOf (lent page (slotSize * i))) in
-        g .1 ∙ ap (λ (a : Row). fitted (f a)) e ∙ ap (λ (b : Bool). cond b y []) fit
 
     piece-is : getD all i (slotBytes (carry f (slotOf []))) ≡ piece
     piece-is =

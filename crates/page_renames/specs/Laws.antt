@@ -2,7 +2,6 @@
 -- proofs/Books.antt has that all of it holds (`laws`).
 use Prim.Native.Nat.{ℕ, _≤_}
 use mathlib.Core.Path.{_≡_}
-use mathlib.Core.Bool.{true}
 use lib.ListN.{length}
 use Rattle.names.specs.declared.Author.{Author}
 use Rattle.name_renames.specs.Renaming.{rename, takeBack}

@@ -1,28 +1,32 @@
 // Renaming a page and taking a rename back. Document 01, "Taking it back" and "What comes back"; the definitions are in specs/, and what
 // becomes of one name is that of crates/name_renames, by crates/one_name.
 ghost use mathlib.Core.Path.{_≡_};
-ghost use mathlib.Core.List.{flatten};
-ghost use mathlib.Core.Bool.{true, _&&_};
-ghost use Prim.Native.Nat.{_+_, _≤_};
-ghost use lib.ListN.{length};
+ghost use mathlib.Core.List.{[], flatten};
+ghost use mathlib.Core.Bool.{true, _&&_, _||_};
+ghost use Prim.Native.Nat.{_-_, _≤_, _<_};
+ghost use lib.Dec.{ltb};
+ghost use lib.ListN.{length, getD};
 ghost use Rattle.names.specs.Ordering.{compareRows, isLess};
-ghost use Rattle.names.specs.Names.{rowOf, fits};
+ghost use Rattle.names.specs.Names.{fits};
 ghost use Rattle.numbers.specs.Lists.{every};
 ghost use Rattle.numbers.specs.Bytes.{put};
 ghost use Rattle.slots.specs.Tuples.{rowAt, Lies};
-ghost use Rattle.slots.specs.Slots.{slotSize, nameOf, lineOf, keepsSlot, slotBytes};
+ghost use Rattle.slots.specs.Slots.{nameOf, keepsSlot};
 ghost use Rattle.pages.specs.Pages.{keepsLayout, slotsOf, namesOf, pieces, rises, isLog};
 ghost use Rattle.answers.specs.Answers.{ask, inOrder, leaves};
 ghost use Rattle.pages.specs.Places.{below};
 ghost use Rattle.name_renames.specs.Renaming.{rename as renameRow, takeBack as takeBackRow, fresh};
+ghost use Rattle.one_name.specs.Backs.{shaped};
+ghost use Rattle.renamed_slots.specs.Ready.{Ready};
 ghost use Rattle.page_renames.specs.Renames.{carried, allFit, openingTests, renameTests, takeBackTests, renameOutcome, takeBackOutcome};
 use answers::Answer;
 use answers::Refusal;
 use names::Author;
 use names::LIMIT;
-use names::Name;
+use one_name::Back;
 use slots::HEAD;
 use slots::SLOT;
+use slots::Seen;
 use slots::Span;
 
 // ── renaming a page: what decides ──
@@ -76,7 +80,7 @@ fn renamed_fits(log: &[u8], author: Author, page: &[u8], x: Span, j: usize) -> F
     }
     let w = one_name::walk(log, author, page, x, j);
     let case = w.case;
-    let gains = one_name::gains(case);
+    let gains = one_name::gains(one_name::change_of(log, author, case));
     Fit {
         fits: !gains,
         below: w.below,
@@ -106,17 +110,10 @@ fn all_renamed_fit(page: &[u8], log: &[u8], author: Author) -> bool
 
 // ── writing ──
 
-// "Line numbers travel with their names": the slot written from p on has that name, and the given slot's line number.
-fn carry(slot: &[u8], name: Name, out: &mut [u8], p: usize)
-    requires { ⌜ (length (now slot) ≡ slotSize) × (p + slotSize ≤ length (now out)) ⌝ }
-    ensures { λ _. ⌜ now (out .exit) ≡ put (now (out .entry)) p (slotBytes (record { line = lineOf (now (slot .entry)); name = rowOf name })) ⌝ }
-{
-    slots::write_slot(out, p, slots::read_line(slot), name);
-}
-
-// The page renamed, from the start of out. Page and log are walked side by side.
+// The page renamed, from the start of out. Page and log are walked side by side. An accepted rename's names rise, so that nothing is compared
+// here: page_renames/specs/Laws.antt, rename-page.
 fn write_renamed(page: &[u8], log: &[u8], author: Author, out: &mut [u8])
-    requires { ⌜ (rises (now page) ≡ true) × (isLog (now log) ≡ true) × (length (now page) ≤ length (now out)) ⌝ }
+    requires { ⌜ (keepsLayout (now page) ≡ true) × (rises (now page) ≡ true) × (isLog (now log) ≡ true) × (length (now page) ≤ length (now out)) ⌝ }
     requires { ⌜ allFit (renameRow author (namesOf (now log))) (now page) ≡ true ⌝ }
     ensures { λ _. ⌜ now (out .exit) ≡ put (now (out .entry)) 0 (flatten (pieces (carried (renameRow author (namesOf (now (log .entry)))) (slotsOf (now (page .entry)))))) ⌝ }
 {
@@ -126,12 +123,10 @@ fn write_renamed(page: &[u8], log: &[u8], author: Author, out: &mut [u8])
     while i < n {
         let at = SLOT * i;
         let end = at + SLOT;
-        let x = pages::span_of(page, i);
-        let w = one_name::walk(log, author, page, x, j);
+        let w = one_name::walk(log, author, page, pages::span_of(page, i), j);
         let case = w.case;
-        let renamed = one_name::renamed_by(log, author, case, page, x);
-        let name = renamed.name;
-        carry(&page[at..end], name, out, at);
+        let change = one_name::change_of(log, author, case);
+        renamed_slots::write_changed(out, at, &page[at..end], change);
         j = w.below;
         i += 1;
     }
@@ -139,7 +134,7 @@ fn write_renamed(page: &[u8], log: &[u8], author: Author, out: &mut [u8])
 
 // The page taken back, from the start of out.
 fn write_back(page: &[u8], log: &[u8], author: Author, out: &mut [u8])
-    requires { ⌜ (isLog (now log) ≡ true) × (length (now page) ≤ length (now out)) ⌝ }
+    requires { ⌜ (keepsLayout (now page) ≡ true) × (isLog (now log) ≡ true) × (length (now page) ≤ length (now out)) ⌝ }
     requires { ⌜ allFit (takeBackRow author (namesOf (now log))) (now page) ≡ true ⌝ }
     ensures { λ _. ⌜ now (out .exit) ≡ put (now (out .entry)) 0 (flatten (pieces (carried (takeBackRow author (namesOf (now (log .entry)))) (slotsOf (now (page .entry)))))) ⌝ }
 {
@@ -149,9 +144,7 @@ fn write_back(page: &[u8], log: &[u8], author: Author, out: &mut [u8])
         let at = SLOT * i;
         let end = at + SLOT;
         let back = one_name::back_of(log, author, page, pages::span_of(page, i));
-        let r = one_name::made(log, page, back);
-        let old = r.name;
-        carry(&page[at..end], old, out, at);
+        renamed_slots::write_back(out, at, &page[at..end], log, back);
         i += 1;
     }
 }
@@ -168,11 +161,10 @@ enum Checked {
 fn check(page: &[u8], log: &[u8], author: Author) -> Checked
     ensures { λ r. ⌜ r ≡ inOrder (openingTests (now (page .entry)) (now (log .entry)) author) Checked.Refused Checked.Passed ⌝ }
 {
-    if !pages::page_ok(page) {
-        return Checked::Refused(Refusal::BadLayout);
-    }
-    if !pages::page_rises(page) {
-        return Checked::Refused(Refusal::NotRising);
+    match pages::look(page) {
+        Seen::Broken => return Checked::Refused(Refusal::BadLayout),
+        Seen::NotRising => return Checked::Refused(Refusal::NotRising),
+        Seen::Rising => {}
     }
     if !pages::log_ok(log) {
         return Checked::Refused(Refusal::BadLog);
@@ -200,14 +192,51 @@ fn check_rename(page: &[u8], log: &[u8], author: Author) -> Checked
     Checked::Passed
 }
 
-// a is below b, and so it went before.
-fn still_rises(rises: bool, a: Name, b: Name) -> bool
-    ensures { λ r. ⌜ r ≡ (rises && isLess (compareRows (rowOf a) (rowOf b))) ⌝ }
+// Slot i is taken back to a name above that of the slot before it. Where neither of the two names nor the log has an end marker (`plain`) there is
+// nothing to test: that the order is kept then is a theorem, `takeBack-mono` (name_renames/proofs/Backward.antt; in specs/Laws.antt `order-kept`).
+fn pair_rises(page: &[u8], log: &[u8], plain: bool, i: usize, last: Back, back: Back) -> bool
+    requires { ⌜ (keepsLayout (now page) ≡ true) × (isLog (now log) ≡ true) × (1 ≤ i) × (i < length (namesOf (now page))) ⌝ }
+    requires { ⌜ Ready (getD (namesOf (now page)) (i - 1) []) (namesOf (now log)) last × Ready (getD (namesOf (now page)) i []) (namesOf (now log)) back ⌝ }
+    requires { ⌜ (plain ≡ true → isLess (compareRows (shaped (getD (namesOf (now page)) (i - 1) []) (namesOf (now log)) last) (shaped (getD (namesOf (now page)) i []) (namesOf (now log)) back)) ≡ true) ⌝ }
+    ensures { λ r. ⌜ r ≡ isLess (compareRows (shaped (getD (namesOf (now (page .entry))) (i - 1) []) (namesOf (now (log .entry))) last) (shaped (getD (namesOf (now (page .entry))) i []) (namesOf (now (log .entry))) back)) ⌝ }
+{
+    if plain {
+        return true;
+    }
+    let before = SLOT * (i - 1);
+    let at = before + SLOT;
+    let end = at + SLOT;
+    renamed_slots::backs_rise(&page[before..at], last, &page[at..end], back, log)
+}
+
+// It went so before, and slot i, where it is not the first, rises too.
+fn still_rises(
+    page: &[u8],
+    log: &[u8],
+    plain: bool,
+    rises: bool,
+    i: usize,
+    last: Back,
+    back: Back,
+) -> bool
+    requires { ⌜ (keepsLayout (now page) ≡ true) × (isLog (now log) ≡ true) × (i < length (namesOf (now page))) ⌝ }
+    requires { ⌜ (1 ≤ i → Ready (getD (namesOf (now page)) (i - 1) []) (namesOf (now log)) last) × Ready (getD (namesOf (now page)) i []) (namesOf (now log)) back ⌝ }
+    requires { ⌜ (1 ≤ i → plain ≡ true → isLess (compareRows (shaped (getD (namesOf (now page)) (i - 1) []) (namesOf (now log)) last) (shaped (getD (namesOf (now page)) i []) (namesOf (now log)) back)) ≡ true) ⌝ }
+    ensures { λ r. ⌜ r ≡ (rises && (ltb i 1 || isLess (compareRows (shaped (getD (namesOf (now (page .entry))) (i - 1) []) (namesOf (now (log .entry))) last) (shaped (getD (namesOf (now (page .entry))) i []) (namesOf (now (log .entry))) back)))) ⌝ }
 {
     if !rises {
         return false;
     }
-    names::is_below(a, b)
+    if i < 1 {
+        return true;
+    }
+    pair_rises(page, log, plain, i, last, back)
+}
+
+fn both(a: bool, b: bool) -> bool
+    ensures { λ r. ⌜ r ≡ (a && b) ⌝ }
+{
+    if a { b } else { false }
 }
 
 // 7, where the results do not rise.
@@ -220,27 +249,33 @@ fn check_rising(rises: bool) -> Checked
     Checked::Passed
 }
 
-// 6, 7: one walk along the page, which keeps the result before.
+// 6, 7: one walk along the page, which keeps what became of the name before, and whether it and the log have no end marker.
 fn check_back(page: &[u8], log: &[u8], author: Author) -> Checked
     requires { ⌜ inOrder (openingTests (now page) (now log) author) Checked.Refused Checked.Passed ≡ Checked.Passed ⌝ }
     ensures { λ r. ⌜ r ≡ inOrder (takeBackTests (now (page .entry)) (now (log .entry)) author) Checked.Refused Checked.Passed ⌝ }
 {
     let n = page.len() / SLOT;
-    let mut last = name_values::empty();
+    let unmarked = one_name::log_unmarked(log);
+    let mut last = Back::Own(0);
+    let mut last_unmarked = unmarked;
     let mut rises = true;
     let mut i: usize = 0;
     loop {
         if n <= i {
             break check_rising(rises);
         }
-        let back = one_name::back_of(log, author, page, pages::span_of(page, i));
-        let r = one_name::made(log, page, back);
-        if !r.fits {
+        let at = SLOT * i;
+        let end = at + SLOT;
+        let c = pages::span_of(page, i);
+        let back = one_name::back_of(log, author, page, c);
+        if !renamed_slots::back_fits(&page[at..end], log, back) {
             break Checked::Refused(Refusal::TooDeep);
         }
-        let name = r.name;
-        rises = still_rises(rises, last, name);
-        last = name;
+        let here_unmarked = both(unmarked, one_name::is_unmarked(page, c));
+        let plain = both(last_unmarked, here_unmarked);
+        rises = still_rises(page, log, plain, rises, i, last, back);
+        last = back;
+        last_unmarked = here_unmarked;
         i += 1;
     }
 }

@@ -1,4 +1,5 @@
 pub mod SlotBySlot
+pub mod LookedAlong
 pub mod FindByHalving
 pub mod RoundTrip
 pub mod WrittenOctets

@@ -5,11 +5,9 @@ use denote.Ref.{now}
 use Rattle.names.specs.Names.{rowOf}
 use Rattle.numbers.proofs.Settled.{one}
 use Rattle.slots.specs.Tuples.{tuplesAt}
-use Rattle.pages.proofs.layout_ok.Reads as layout-ok
-use Rattle.pages.proofs.page_ok.Reads as page-ok
 use Rattle.pages.proofs.slot_ok.Reads as slot-ok
-use Rattle.pages.proofs.names_rise.Reads as names-rise
-use Rattle.pages.proofs.page_rises.Reads as page-rises
+use Rattle.pages.proofs.look_over.Reads as look-over
+use Rattle.pages.proofs.look.Reads as look
 use Rattle.pages.proofs.log_ok.Reads as log-ok
 use Rattle.pages.proofs.check_page.Reads as check-page
 use Rattle.pages.proofs.check_log.Reads as check-log
@@ -17,20 +15,14 @@ use Rattle.pages.proofs.find.Reads as find
 use Rattle.pages.proofs.name_of.Reads as name-of
 use Rattle.pages.proofs.span_of.Reads as span-of
 
-pub layout-ok-settled : (κs : _) (a : _) (r : _) (s : _) (r' : _) (s' : _) → layout-ok.Learnt κs a r s → layout-ok.Learnt κs a r' s' → r ≡ r'
-layout-ok-settled κs a r s r' s' p q = one p q
-
-pub page-ok-settled : (κs : _) (a : _) (r : _) (s : _) (r' : _) (s' : _) → page-ok.Learnt κs a r s → page-ok.Learnt κs a r' s' → r ≡ r'
-page-ok-settled κs a r s r' s' p q = one p q
-
 pub slot-ok-settled : (κs : _) (a : _) (r : _) (s : _) (r' : _) (s' : _) → slot-ok.Learnt κs a r s → slot-ok.Learnt κs a r' s' → r ≡ r'
 slot-ok-settled κs a r s r' s' p q = one p q
 
-pub names-rise-settled : (κs : _) (a : _) (r : _) (s : _) (r' : _) (s' : _) → names-rise.Learnt κs a r s → names-rise.Learnt κs a r' s' → r ≡ r'
-names-rise-settled κs a r s r' s' p q = one p q
+pub look-over-settled : (κs : _) (a : _) (r : _) (s : _) (r' : _) (s' : _) → look-over.Learnt κs a r s → look-over.Learnt κs a r' s' → r ≡ r'
+look-over-settled κs a r s r' s' p q = one p q
 
-pub page-rises-settled : (κs : _) (a : _) (r : _) (s : _) (r' : _) (s' : _) → page-rises.Learnt κs a r s → page-rises.Learnt κs a r' s' → r ≡ r'
-page-rises-settled κs a r s r' s' p q = one p q
+pub look-settled : (κs : _) (a : _) (r : _) (s : _) (r' : _) (s' : _) → look.Learnt κs a r s → look.Learnt κs a r' s' → r ≡ r'
+look-settled κs a r s r' s' p q = one p q
 
 pub log-ok-settled : (κs : _) (a : _) (r : _) (s : _) (r' : _) (s' : _) → log-ok.Learnt κs a r s → log-ok.Learnt κs a r' s' → r ≡ r'
 log-ok-settled κs a r s r' s' p q = one p q

@@ -41,28 +41,20 @@ module _ (room : ℕ) (s : Bytes) (at : ℕ) (h : sizeOver room ≤ length s - a
   pub lent-length-over : length (lentOver room s at) ≡ sizeOver room
   lent-length-over = simp (length-take, length-drop) (omega arith)
 
-  first-part : partsOver room (drop at s) ≡ lentOver room s at ∷ partsOver room (drop (at + sizeOver room) s)
+  pub first-part : partsOver room (drop at s) ≡ lentOver room s at ∷ partsOver room (drop (at + sizeOver room) s)
   first-part =
       let e : sizeOver room ≡ at + sizeOver room - at = omega arith in
       let l : sizeOver room ≤ length (drop at s) = rw length-drop h in
       parts-first (sizeOver room) (drop at s) (omega arith) l
       ∙ (λ i. take (e i) (drop at s) ∷ partsOver room (drop-drop (sizeOver room) at s i))
 
-  -- a turn: the answer b for that slot, and what is left after it
-  pub part-turn : (f : Bytes → Bool) {b : Bool} → b ≡ f (lentOver room s at)
-      → b && every f (partsOver room (drop (at + sizeOver room) s)) ≡ every f (partsOver room (drop at s))
-  part-turn f e = (λ i. e i && every f (partsOver room (drop (at + sizeOver room) s))) ∙ sym (ap (every f) first-part)
-
   first-name : namesOver room (drop at s) ≡ nameOver room (lentOver room s at) ∷ namesOver room (drop (at + sizeOver room) s)
   first-name = ap (λ (l : List Bytes). map nameIn (map (slotOver room) l)) first-part
 
 -- no whole slot is left
 module _ (room : ℕ) (s : Bytes) (at : ℕ) (h : length s - at < sizeOver room) where
-  no-part : partsOver room (drop at s) ≡ []
+  pub no-part : partsOver room (drop at s) ≡ []
   no-part = let l : length (drop at s) < sizeOver room = rw length-drop h in parts-none (sizeOver room) (drop at s) l
-
-  pub part-last : (f : Bytes → Bool) → true ≡ every f (partsOver room (drop at s))
-  part-last f = sym (ap (every f) no-part)
 
   no-name : namesOver room (drop at s) ≡ []
   no-name = ap (λ (l : List Bytes). map nameIn (map (slotOver room) l)) no-part
@@ -124,35 +116,13 @@ pub rising-cons : (a b : Row) (l : List Row) → rising (a ∷ b ∷ l) ≡ isLe
 unfolding rising
 rising-cons a b l = refl
 
-rising-one : (a : Row) → rising (a ∷ []) ≡ true
+pub rising-one : (a : Row) → rising (a ∷ []) ≡ true
 unfolding rising
 rising-one a = refl
 
-rising-none : rising [] ≡ true
+pub rising-none : rising [] ≡ true
 unfolding rising
 rising-none = refl
-
--- a turn: the names of the first two slots from `at` on compare as o
-pub neighbours : (room : ℕ) (s : Bytes) (at : ℕ) {o : Order} → sizeOver room + sizeOver room ≤ length s - at
-    → o ≡ compareRows (nameOver room (lentOver room s at)) (nameOver room (lentOver room s (at + sizeOver room)))
-    → isLess o && rising (namesOver room (drop (at + sizeOver room) s)) ≡ rising (namesOver room (drop at s))
-neighbours room s at h e =
-    let a = nameOver room (lentOver room s at) in
-    let next = at + sizeOver room in
-    let b = nameOver room (lentOver room s next) in
-    let l = namesOver room (drop (next + sizeOver room) s) in
-    let first = first-name room s at (omega arith) in
-    let second = first-name room s next (omega arith) in
-    (λ i. isLess (e i) && rising (second i)) ∙ sym (rising-cons a b l) ∙ sym (ap rising first ∙ ap (λ (r : List Row). rising (a ∷ r)) second)
-
-pub no-neighbours : (room : ℕ) (s : Bytes) (at : ℕ) → length s - at < sizeOver room + sizeOver room → true ≡ rising (namesOver room (drop at s))
-no-neighbours room s at h = elim (decLt (length s - at) (sizeOver room)) [
-  | yes k ↦ sym (ap rising (no-name room s at k) ∙ rising-none)
-  | no k ↦
-      let a = nameOver room (lentOver room s at) in
-      let rest = no-name room s (at + sizeOver room) (omega arith) in
-      sym (ap rising (first-name room s at (omega arith)) ∙ ap (λ (r : List Row). rising (a ∷ r)) rest ∙ rising-one a)
-]
 
 pub length-slots : (s : Bytes) → length (slotsOf s) ≡ length s / slotSize
 length-slots s = length-map (partsOf s) slotOf ∙ length-parts (length s / slotSize) s

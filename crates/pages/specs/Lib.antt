@@ -1,3 +1,4 @@
 pub mod Pages
+pub mod Looks
 pub mod Places
 pub mod Laws

@@ -9,7 +9,9 @@ ghost use Rattle.names.specs.Names.{limit, rowOf};
 ghost use Rattle.slots.specs.Tuples.{rowAt, Lies};
 ghost use Rattle.numbers.specs.Lists.{every};
 ghost use Rattle.slots.specs.Slots.{keepsOver, slotSize, nameOf, keepsSlot};
-ghost use Rattle.pages.specs.Pages.{partsOver, layoutOver, risesOver, slotsOf, namesOf, rises, lineIsZero, keepsLayout, isLog, checkPage, checkLog};
+ghost use Rattle.slots.specs.Looks.{seen};
+ghost use Rattle.pages.specs.Pages.{partsOver, risesOver, slotsOf, namesOf, rises, lineIsZero, keepsLayout, isLog, checkPage, checkLog};
+ghost use Rattle.pages.specs.Looks.{seenOver, seenIn};
 ghost use Rattle.pages.specs.Places.{placeOf};
 use answers::Answer;
 use answers::Refusal;
@@ -18,6 +20,7 @@ use names::Name;
 use names::Order;
 use slots::HEAD;
 use slots::SLOT;
+use slots::Seen;
 use slots::Span;
 use slots::TUPLE;
 
@@ -26,82 +29,72 @@ pub const SLOTS: usize = 256;
 
 pub const PAGE: usize = SLOTS * SLOT;
 
-// Every slot keeps the layout of one with room for so many tuples. A rest that is no whole slot is not looked at.
-fn slots_ok(page: &[u8], room: usize) -> bool
+// The layout of slots with room for so many tuples and the order of their names, in one pass: each after the one before it, the first
+// after none. 1 comes before 2 wherever it stands, so that a name that does not rise ends nothing.
+fn look_along(page: &[u8], room: usize) -> Seen
     requires { ⌜ room ≤ limit ⌝ }
-    ensures { λ r. ⌜ r ≡ every (keepsOver room) (partsOver room (now (page .entry))) ⌝ }
+    ensures { λ r. ⌜ r ≡ seen (every (keepsOver room) (partsOver room (now (page .entry)))) (risesOver room (now (page .entry))) ⌝ }
 {
     let size = HEAD + TUPLE * room;
+    let mut rising = true;
+    let mut n: usize = 0;
+    let mut from: usize = 0;
     let mut at: usize = 0;
     while size <= page.len() - at {
+        let next = from + size;
         let end = at + size;
-        if !slots::slot_ok(&page[at..end], room) {
-            return false;
+        match slots::look_after(&page[from..next], n, &page[at..end], room) {
+            Seen::Broken => return Seen::Broken,
+            Seen::NotRising => {
+                rising = false;
+            }
+            Seen::Rising => {}
         }
+        n = slots::depth_over(&page[at..end], room);
+        from = at;
         at = end;
     }
-    true
+    if rising {
+        Seen::Rising
+    } else {
+        Seen::NotRising
+    }
 }
 
-// The layout of a page whose slots have room for so many tuples, its order apart.
-pub fn layout_ok(page: &[u8], room: usize) -> bool
+// A page whose slots have room for so many tuples: its layout, and the order of its names.
+pub fn look_over(page: &[u8], room: usize) -> Seen
     requires { ⌜ room ≤ limit ⌝ }
-    ensures { λ r. ⌜ r ≡ layoutOver room (now (page .entry)) ⌝ }
+    ensures { λ r. ⌜ r ≡ seenOver room (now (page .entry)) ⌝ }
 {
     let size = HEAD + TUPLE * room;
     if page.len() % size != 0 {
-        return false;
+        return Seen::Broken;
     }
     if SLOTS < page.len() / size {
-        return false;
+        return Seen::Broken;
     }
-    slots_ok(page, room)
+    look_along(page, room)
 }
 
-// A page's layout, its order apart.
-pub fn page_ok(page: &[u8]) -> bool
-    ensures { λ r. ⌜ r ≡ keepsLayout (now (page .entry)) ⌝ }
+// A page's layout, and the order of its names.
+pub fn look(page: &[u8]) -> Seen
+    ensures { λ r. ⌜ r ≡ seenIn (now (page .entry)) ⌝ }
 {
-    layout_ok(page, LIMIT)
+    look_over(page, LIMIT)
 }
 
-// The layout of a slot that is given by itself: a page of one slot.
+// The layout of a slot that is given by itself: a page of one slot, so that there is one place where slots are looked at.
 pub fn slot_ok(slot: &[u8]) -> bool
     ensures { λ r. ⌜ r ≡ keepsSlot (now (slot .entry)) ⌝ }
 {
     if slot.len() != SLOT {
         return false;
     }
-    slots_ok(slot, LIMIT)
-}
-
-// The names of slots with room for so many tuples rise strictly.
-pub fn names_rise(page: &[u8], room: usize) -> bool
-    requires { ⌜ room ≤ limit ⌝ }
-    ensures { λ r. ⌜ r ≡ risesOver room (now (page .entry)) ⌝ }
-{
-    let size = HEAD + TUPLE * room;
-    let mut at: usize = 0;
-    loop {
-        if page.len() - at < 2 * size {
-            break true;
-        }
-        let next = at + size;
-        let end = next + size;
-        match slots::compare_slots(&page[at..next], &page[next..end], room) {
-            Order::Less => {}
-            Order::Same => break false,
-            Order::More => break false,
-        }
-        at = next;
+    match look_along(slot, LIMIT) {
+        Seen::Broken => false,
+        Seen::NotRising => true,
+        Seen::Rising => true,
     }
-}
-
-// The names of a page's slots rise strictly.
-pub fn page_rises(page: &[u8]) -> bool
-    ensures { λ r. ⌜ r ≡ rises (now (page .entry)) ⌝ }
-{
-    names_rise(page, LIMIT)
 }
 
 // The line number of every slot is 0.
@@ -125,11 +118,10 @@ fn lines_are_zero(page: &[u8]) -> bool
 pub fn log_ok(log: &[u8]) -> bool
     ensures { λ r. ⌜ r ≡ isLog (now (log .entry)) ⌝ }
 {
-    if !page_ok(log) {
-        return false;
-    }
-    if !page_rises(log) {
-        return false;
+    match look(log) {
+        Seen::Broken => return false,
+        Seen::NotRising => return false,
+        Seen::Rising => {}
     }
     if log.len() < SLOT {
         return false;
@@ -141,13 +133,11 @@ pub fn log_ok(log: &[u8]) -> bool
 pub fn check_page(page: &[u8]) -> Answer
     ensures { λ r. ⌜ r ≡ checkPage (now (page .entry)) ⌝ }
 {
-    if !page_ok(page) {
-        return Answer::Refused(Refusal::BadLayout);
+    match look(page) {
+        Seen::Broken => Answer::Refused(Refusal::BadLayout),
+        Seen::NotRising => Answer::Refused(Refusal::NotRising),
+        Seen::Rising => Answer::Accepted(page.len() / SLOT),
     }
-    if !page_rises(page) {
-        return Answer::Refused(Refusal::NotRising);
-    }
-    Answer::Accepted(page.len() / SLOT)
 }
 
 // 3; else the count of the log's slots.

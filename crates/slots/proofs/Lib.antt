@@ -3,7 +3,9 @@ pub mod PackedTuples
 pub mod TupleTests
 pub mod ZeroTuples
 pub mod NameTests
+pub mod LookedAt
 pub mod WrittenSlots
 pub mod RoundTrip
+pub mod CopiedTuples
 pub mod HeldNames
 pub mod Settled

@@ -1,9 +1,10 @@
 -- Tuples compared in two pieces, position, node and sequence as one number and the offset raised by 2³¹ (`packed`), of tuples in bytes
 -- (`held-at`, `front-at`) and by value (`held-by`). What is left of a comparison of two rows in bytes (`left-all`, `left-same`, `left-less`,
--- `left-more`, `left-at`), and of one with a tuple (`first-tuple`). Assumes nothing.
+-- `left-more`, `left-at`), after equal tuples (`alike-compare`), and of one with a tuple (`first-tuple`). Assumes nothing.
 use mathlib.Core.Path.{_≡_, refl, _∙_, sym, ap}
 use mathlib.Core.Logic.{inl, inr}
-use mathlib.Core.List.{[], _∷_}
+use mathlib.Core.List.{[], _∷_, _++_}
+use mathlib.Core.Bool.{true}
 use Prim.Native.Nat.{ℕ, _+_, _*_, _-_, _%_, _<_, _≤_}
 use native.Mathlib.Decide.{decLt}
 use native.Mathlib.Nat.{suc-mul, mul-le-mul-right}
@@ -13,15 +14,15 @@ use lib.Seq.{take-all}
 use Rattle.names.specs.declared.Tuple.{Tuple}
 use Rattle.names.specs.declared.Order.{Order}
 use Rattle.names.specs.declared.Order.the-variants.{Less, Same, More}
-use Rattle.names.specs.Ordering.{compareℕ, compareℤ, then, compareTuples, compareRows}
+use Rattle.names.specs.Ordering.{Row, compareℕ, compareℤ, then, compareTuples, compareRows, isSame}
 use Rattle.names.specs.Names.{m}
-use Rattle.names.proofs.Laws.{ℕ-less, ℕ-same, ℕ-more, ℕ-cases}
+use Rattle.names.proofs.Laws.{ℕ-less, ℕ-same, ℕ-more, ℕ-cases, tuple-same, same-tuple}
 use Rattle.names.proofs.CompareTuples.{left, left-same as both-ended, left-less as first-ended, left-more as second-ended, left-at as turn, to-one}
 use Rattle.numbers.specs.Bytes.{Bytes, Octets, at32, at64, signed, unsigned}
 use Rattle.numbers.proofs.ReadNumbers.{fits16, fits32, signed-pos, signed-neg}
 use Rattle.numbers.proofs.TwosComplement.{Word, signed-unsigned, unsigned-fits}
 use Rattle.slots.specs.Tuples.{tupleAt, tuplesAt, tupleSize}
-use Rattle.slots.proofs.TuplesInBytes.{length-tuplesAt, getD-tuplesAt}
+use Rattle.slots.proofs.TuplesInBytes.{length-tuplesAt, getD-tuplesAt, split-tuplesAt, more-tuplesAt}
 
 -- position, node and sequence as one number
 abbrev pub front : Tuple → ℕ
@@ -166,6 +167,37 @@ module _ (a : Bytes) (p n : ℕ) (b : Bytes) (q k : ℕ) where
       let s : compareTuples (tupleAt a (p + tupleSize * i)) (tupleAt b (q + tupleSize * i)) ≡ compareTuples (getD (tuplesAt a p n) i m) (getD (tuplesAt b q k) i m) =
       λ j. compareTuples (sym (getD-tuplesAt a p n i h) j) (sym (getD-tuplesAt b q k i g) j) in
       turn (tuplesAt a p n) (tuplesAt b q k) n k i m long long' (sym f ∙ e ∙ s) h g
+
+-- ── rows that begin alike ──
+
+is-same : (o : Order) → isSame o ≡ true → o ≡ Same
+is-same Less e = absurd (let z : _≡_ {A = ℕ} 0 1 = cc in omega arith)
+is-same Same e = refl
+is-same More e = absurd (let z : _≡_ {A = ℕ} 0 1 = cc in omega arith)
+
+-- what follows equal tuples decides
+after-alike : (x a b : Row) → compareRows (x ++ a) (x ++ b) ≡ compareRows a b
+unfolding compareRows
+after-alike [] a b = refl
+after-alike (t ∷ x) a b = ap (λ (o : Order). then o (compareRows (x ++ a) (x ++ b))) (tuple-same t) ∙ after-alike x a b
+
+module _ (a : Bytes) (p : ℕ) (b : Bytes) (q : ℕ) (i : ℕ) (e : tuplesAt a p i ≡ tuplesAt b q i) where
+  -- one more tuple is the same
+  pub alike-more : isSame (compareTuples (tupleAt a (p + tupleSize * i)) (tupleAt b (q + tupleSize * i))) ≡ true → tuplesAt a p (i + 1) ≡ tuplesAt b q (i + 1)
+  alike-more f =
+      let t = tupleAt a (p + tupleSize * i) in
+      let u = tupleAt b (q + tupleSize * i) in
+      let g = same-tuple t u (is-same (compareTuples t u) f) in
+      sym (more-tuplesAt a p i) ∙ (λ j. e j ++ (g j ∷ [])) ∙ more-tuplesAt b q i
+
+  -- the rows compare as what is left of them does
+  pub alike-compare : (n k : ℕ) → i ≤ n → i ≤ k → compareRows (tuplesAt a (p + tupleSize * i) (n - i)) (tuplesAt b (q + tupleSize * i) (k - i)) ≡ compareRows (tuplesAt a p n) (tuplesAt b q k)
+  alike-compare n k h g =
+      let x = tuplesAt a (p + tupleSize * i) (n - i) in
+      let y = tuplesAt b (q + tupleSize * i) (k - i) in
+      sym (after-alike (tuplesAt b q i) x y)
+      ∙ (λ j. compareRows (sym e j ++ x) (tuplesAt b q i ++ y))
+      ∙ (λ j. compareRows (split-tuplesAt a p n i h j) (split-tuplesAt b q k i g j))
 
 -- ── a row and one tuple ──
 

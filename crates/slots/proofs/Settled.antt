@@ -6,24 +6,31 @@ use Rattle.names.specs.Names.{rowOf}
 use Rattle.numbers.proofs.Settled.{one}
 use Rattle.slots.proofs.read_tuple.Reads as read-tuple
 use Rattle.slots.proofs.read_row.Reads as read-row
+use Rattle.slots.proofs.depth_over.Reads as depth-over
 use Rattle.slots.proofs.depth.Reads as depth
 use Rattle.slots.proofs.read_line.Reads as read-line
 use Rattle.slots.proofs.compare_rows.Reads as compare-rows
 use Rattle.slots.proofs.compare_to_one.Reads as compare-to-one
 use Rattle.slots.proofs.compare_slots.Reads as compare-slots
 use Rattle.slots.proofs.name_at.Reads as name-at
-use Rattle.slots.proofs.slot_ok.Reads as slot-ok
+use Rattle.slots.proofs.look_after.Reads as look-after
 use Rattle.slots.proofs.write_tuple.Reads as write-tuple
 use Rattle.slots.proofs.write_row.Reads as write-row
 use Rattle.slots.proofs.copy_row.Reads as copy-row
 use Rattle.slots.proofs.write_slot.Reads as write-slot
 use Rattle.slots.proofs.copy_slot.Reads as copy-slot
+use Rattle.slots.proofs.marker_at.Reads as marker-at
+use Rattle.slots.proofs.write_head.Reads as write-head
+use Rattle.slots.proofs.write_rest.Reads as write-rest
 
 pub read-tuple-settled : (κs : _) (a : _) (r : _) (s : _) (r' : _) (s' : _) → read-tuple.Learnt κs a r s → read-tuple.Learnt κs a r' s' → r ≡ r'
 read-tuple-settled κs a r s r' s' p q = one p q
 
 pub read-row-settled : (κs : _) (a : _) (r : _) (s : _) (r' : _) (s' : _) → read-row.Learnt κs a r s → read-row.Learnt κs a r' s' → rowOf r ≡ rowOf r'
 read-row-settled κs a r s r' s' p q = one p q
+
+pub depth-over-settled : (κs : _) (a : _) (r : _) (s : _) (r' : _) (s' : _) → depth-over.Learnt κs a r s → depth-over.Learnt κs a r' s' → r ≡ r'
+depth-over-settled κs a r s r' s' p q = one p q
 
 pub depth-settled : (κs : _) (a : _) (r : _) (s : _) (r' : _) (s' : _) → depth.Learnt κs a r s → depth.Learnt κs a r' s' → r ≡ r'
 depth-settled κs a r s r' s' p q = one p q
@@ -43,8 +50,8 @@ compare-slots-settled κs a r s r' s' p q = one p q
 pub name-at-settled : (κs : _) (a : _) (r : _) (s : _) (r' : _) (s' : _) → name-at.Learnt κs a r s → name-at.Learnt κs a r' s' → r ≡ r'
 name-at-settled κs a r s r' s' p q = one p q
 
-pub slot-ok-settled : (κs : _) (a : _) (r : _) (s : _) (r' : _) (s' : _) → slot-ok.Learnt κs a r s → slot-ok.Learnt κs a r' s' → r ≡ r'
-slot-ok-settled κs a r s r' s' p q = one p q
+pub look-after-settled : (κs : _) (a : _) (r : _) (s : _) (r' : _) (s' : _) → look-after.Learnt κs a r s → look-after.Learnt κs a r' s' → r ≡ r'
+look-after-settled κs a r s r' s' p q = one p q
 
 pub write-tuple-settled : (κs : _) (a : _) (r : _) (s : _) (r' : _) (s' : _) → write-tuple.Learnt κs a r s → write-tuple.Learnt κs a r' s' → now (s .0) ≡ now (s' .0)
 write-tuple-settled κs a r s r' s' p q = one p q
@@ -60,3 +67,12 @@ write-slot-settled κs a r s r' s' p q = one p q
 
 pub copy-slot-settled : (κs : _) (a : _) (r : _) (s : _) (r' : _) (s' : _) → copy-slot.Learnt κs a r s → copy-slot.Learnt κs a r' s' → now (s .0) ≡ now (s' .0)
 copy-slot-settled κs a r s r' s' p q = one p q
+
+pub marker-at-settled : (κs : _) (a : _) (r : _) (s : _) (r' : _) (s' : _) → marker-at.Learnt κs a r s → marker-at.Learnt κs a r' s' → r ≡ r'
+marker-at-settled κs a r s r' s' p q = one p q
+
+pub write-head-settled : (κs : _) (a : _) (r : _) (s : _) (r' : _) (s' : _) → write-head.Learnt κs a r s → write-head.Learnt κs a r' s' → now (s .0) ≡ now (s' .0)
+write-head-settled κs a r s r' s' p q = one p q
+
+pub write-rest-settled : (κs : _) (a : _) (r : _) (s : _) (r' : _) (s' : _) → write-rest.Learnt κs a r s → write-rest.Learnt κs a r' s' → now (s .0) ≡ now (s' .0)
+write-rest-settled κs a r s r' s' p q = one p q

@@ -1,13 +1,14 @@
 -- The sorts of tuples told by their bytes: ordinary ones, last ones, markers. Assumes nothing.
 use mathlib.Core.Path.{_≡_, refl, _∙_, sym, ap}
 use mathlib.Core.Logic.{inl, inr}
-use mathlib.Core.Bool.{Bool, false, _&&_, _||_, and-true, and-false, and-assoc}
-use Prim.Native.Nat.{ℕ, _+_, _-_, _%_, _<_, _≤_, _^_}
+use mathlib.Core.Bool.{Bool, true, false, _&&_, _||_, and-true, and-false, and-assoc}
+use Prim.Native.Nat.{ℕ, _+_, _-_, _*_, _/_, _%_, _<_, _≤_, _^_}
 use native.Mathlib.Decide.{decLt}
 use native.Mathlib.Omega.{arith}
 use borrow.Author.Tests.{lt-leb, le-leb, lt-ltb, le-ltb, eq-eqb, ne-eqb}
 use lib.Dec.{eqb, leb, ltb}
 use lib.IntN.{pos, negsuc}
+use lib.ListN.{getD}
 use Rattle.names.specs.declared.Tuple.{Tuple}
 use Rattle.names.specs.declared.Order.{Order}
 use Rattle.names.specs.declared.Order.the-variants.{Less, Same, More}
@@ -34,25 +35,49 @@ offset-by o q = elim (decLt o 2147483648) [
       ∙ sym (ap (withinℤ (negsuc 0) (pos 2147483646)) (signed-neg o h') ∙ and-true (leb (4294967295 - o) 0))
 ]
 
-module _ (s : Bytes) (p : ℕ) (k : Octets s) where
-  pub low-position : at16 s p < 1 → false ≡ ordinary (tupleAt s p)
-  unfolding ordinaryFrom tupleAt
-  low-position h = simp (lt-leb 1 (at16 s p) h)
+-- position and node read as one number f, the lowest byte first: a position of 0 or 65535 and a node of 0 are the same either way round
+module _ (s : Bytes) (p : ℕ) (k : Octets s) (f : ℕ) (e : f ≡ getD s p 0 + getD s (p + 1) 0 * 256 + getD s (p + 2) 0 * 65536 + getD s (p + 3) 0 * 16777216) where
+  low-half : f % 65536 ≡ getD s p 0 + getD s (p + 1) 0 * 256
+  low-half = omega (arith, k p, k (p + 1))
 
-  pub high-position : 1 ≤ at16 s p → 65534 < at16 s p → false ≡ ordinary (tupleAt s p)
-  unfolding ordinaryFrom tupleAt
-  high-position h g = simp (le-leb 1 (at16 s p) h, lt-leb (at16 s p) 65534 g)
+  high-half : f / 65536 ≡ getD s (p + 2) 0 + getD s (p + 2 + 1) 0 * 256
+  high-half =
+      let q : getD s (p + 3) 0 ≡ getD s (p + 2 + 1) 0 = ap (λ (j : ℕ). getD s j 0) (omega arith) in
+      omega (arith, k p, k (p + 1))
 
-  pub no-node : 1 ≤ at16 s p → at16 s p ≤ 65534 → at16 s (p + 2) < 1 → false ≡ ordinary (tupleAt s p)
+  pub low-position : f % 65536 < 1 → false ≡ ordinary (tupleAt s p)
   unfolding ordinaryFrom tupleAt
-  no-node h g l = simp (le-leb 1 (at16 s p) h, le-leb (at16 s p) 65534 g, lt-leb 1 (at16 s (p + 2)) l)
+  low-position h =
+      let a : at16 s p < 1 = omega (arith, low-half) in
+      simp (lt-leb 1 (at16 s p) a)
 
-  pub by-offset : 1 ≤ at16 s p → at16 s p ≤ 65534 → 1 ≤ at16 s (p + 2) → withinℤ (negsuc 0) (pos 2147483646) (signed (at32 s (p + 8))) ≡ ordinary (tupleAt s p)
+  pub high-position : 65534 < f % 65536 → false ≡ ordinary (tupleAt s p)
   unfolding ordinaryFrom tupleAt
-  by-offset h g l =
-      let n : at16 s (p + 2) ≤ 65535 = omega (arith, fits16 s (p + 2) k) in
-      let q : at32 s (p + 4) ≤ 4294967295 = omega (arith, fits32 s (p + 4) k) in
-      simp (le-leb 1 (at16 s p) h, le-leb (at16 s p) 65534 g, le-leb 1 (at16 s (p + 2)) l, le-leb (at16 s (p + 2)) 65535 n, le-leb (at32 s (p + 4)) 4294967295 q)
+  high-position h =
+      let a : 65534 < at16 s p = omega (arith, low-half, k p, k (p + 1)) in
+      simp (le-leb 1 (at16 s p) (omega arith), lt-leb (at16 s p) 65534 a)
+
+  -- a position that is neither
+  module _ (l : 1 ≤ f % 65536) (h : f % 65536 ≤ 65534) where
+    from-one : leb 1 (at16 s p) ≡ true
+    from-one = le-leb 1 (at16 s p) (omega (arith, low-half))
+
+    to-last : leb (at16 s p) 65534 ≡ true
+    to-last = le-leb (at16 s p) 65534 (omega (arith, low-half, k p, k (p + 1)))
+
+    pub no-node : f < 65536 → false ≡ ordinary (tupleAt s p)
+    unfolding ordinaryFrom tupleAt
+    no-node g =
+        let a : at16 s (p + 2) < 1 = omega (arith, high-half) in
+        simp (from-one, to-last, lt-leb 1 (at16 s (p + 2)) a)
+
+    pub by-offset : 65536 ≤ f → withinℤ (negsuc 0) (pos 2147483646) (signed (at32 s (p + 8))) ≡ ordinary (tupleAt s p)
+    unfolding ordinaryFrom tupleAt
+    by-offset g =
+        let a : 1 ≤ at16 s (p + 2) = omega (arith, high-half) in
+        let n : at16 s (p + 2) ≤ 65535 = omega (arith, fits16 s (p + 2) k) in
+        let q : at32 s (p + 4) ≤ 4294967295 = omega (arith, fits32 s (p + 4) k) in
+        simp (from-one, to-last, le-leb 1 (at16 s (p + 2)) a, le-leb (at16 s (p + 2)) 65535 n, le-leb (at32 s (p + 4)) 4294967295 q)
 
 -- an offset of at least 0 among those of at least -1
 from-zero : (o : ℕ) → withinℤ (pos 0) (pos 2147483646) (signed o) ≡ withinℤ (negsuc 0) (pos 2147483646) (signed o) && ltb o 2147483648

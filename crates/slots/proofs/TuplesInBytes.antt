@@ -1,10 +1,10 @@
 -- Tuples one after the other in a row of bytes. Assumes nothing.
 use mathlib.Core.Path.{_≡_, refl, _∙_, sym, ap}
-use mathlib.Core.List.{_∷_}
+use mathlib.Core.List.{[], _∷_, _++_}
 use Prim.Native.Nat.{ℕ, zero, suc, _+_, _-_, _*_, _<_, _≤_}
 use native.Mathlib.Nat.{le-of-suc-le-suc, not-suc-le-zero}
 use native.Mathlib.Omega.{arith}
-use lib.ListN.{length, getD, take, drop}
+use lib.ListN.{length, getD, take, drop, take-append-drop}
 use lib.Seq.{getD-take, length-take-le, ext-getD}
 use Rattle.names.specs.Ordering.{Row}
 use Rattle.names.specs.Names.{m}
@@ -26,10 +26,25 @@ take-tuplesAt s p n zero h = refl
 take-tuplesAt s p zero (suc k) h = absurd (not-suc-le-zero h)
 take-tuplesAt s p (suc n) (suc k) h = ap (λ (l : Row). tupleAt s p ∷ l) (take-tuplesAt s (p + tupleSize) n k (le-of-suc-le-suc h))
 
--- the tuples after the first
-pub tail-tuplesAt : (s : Bytes) (p n : ℕ) → 1 ≤ n → tuplesAt s (p + tupleSize) (n - 1) ≡ drop 1 (tuplesAt s p n)
-tail-tuplesAt s p zero h = absurd (not-suc-le-zero h)
-tail-tuplesAt s p (suc n) h = let e : suc n - 1 ≡ n = omega arith in ap (tuplesAt s (p + tupleSize)) e
+-- the tuples after the first k
+pub drop-tuplesAt : (s : Bytes) (p n k : ℕ) → k ≤ n → tuplesAt s (p + tupleSize * k) (n - k) ≡ drop k (tuplesAt s p n)
+drop-tuplesAt s p n zero h = let e : p + tupleSize * 0 ≡ p = omega arith in let f : n - 0 ≡ n = omega arith in λ i. tuplesAt s (e i) (f i)
+drop-tuplesAt s p zero (suc k) h = absurd (not-suc-le-zero h)
+drop-tuplesAt s p (suc n) (suc k) h =
+    let e : p + tupleSize * suc k ≡ p + tupleSize + tupleSize * k = omega arith in
+    let f : suc n - suc k ≡ n - k = omega arith in
+    (λ i. tuplesAt s (e i) (f i)) ∙ drop-tuplesAt s (p + tupleSize) n k (le-of-suc-le-suc h)
+
+-- the first k tuples, and those after them
+pub split-tuplesAt : (s : Bytes) (p n k : ℕ) → k ≤ n → tuplesAt s p k ++ tuplesAt s (p + tupleSize * k) (n - k) ≡ tuplesAt s p n
+split-tuplesAt s p n k h =
+    (λ i. sym (take-tuplesAt s p n k h) i ++ drop-tuplesAt s p n k h i) ∙ take-append-drop k (tuplesAt s p n)
+
+-- one more tuple
+pub more-tuplesAt : (s : Bytes) (p k : ℕ) → tuplesAt s p k ++ (tupleAt s (p + tupleSize * k) ∷ []) ≡ tuplesAt s p (k + 1)
+more-tuplesAt s p k =
+    let e : 1 ≡ k + 1 - k = omega arith in
+    ap (λ (n : ℕ). tuplesAt s p k ++ tuplesAt s (p + tupleSize * k) n) e ∙ split-tuplesAt s p (k + 1) k (omega arith)
 
 -- tuples that stand d bytes further on
 module _ (d : ℕ) (s : Bytes) where

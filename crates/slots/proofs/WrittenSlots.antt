@@ -33,7 +33,7 @@ pub tuple-length : (t : Tuple) → length (tupleBytes t) ≡ tupleSize
 unfolding tupleBytes
 tuple-length t = refl
 
-row-append : (a b : Row) → rowBytes (a ++ b) ≡ rowBytes a ++ rowBytes b
+pub row-append : (a b : Row) → rowBytes (a ++ b) ≡ rowBytes a ++ rowBytes b
 row-append [] b = refl
 row-append (t ∷ a) b = ap (λ (l : Bytes). tupleBytes t ++ l) (row-append a b) ∙ sym (append-assoc (tupleBytes t) (rowBytes a) (rowBytes b))
 

@@ -1,15 +1,16 @@
 -- Zero bytes where a tuple, or the three bytes after the depth, would stand. Assumes nothing.
 use mathlib.Core.Path.{_≡_, _∙_, sym, ap}
-use mathlib.Core.Bool.{true, false, _&&_}
-use Prim.Native.Nat.{ℕ, _+_, _*_, _-_, _<_, _≤_}
+use mathlib.Core.Bool.{Bool, true, false, _&&_}
+use Prim.Native.Nat.{ℕ, _+_, _-_, _%_, _<_, _≤_}
 use native.Mathlib.Omega.{arith}
 use lib.Dec.{eqb}
-use lib.ListN.{length, getD, take, drop}
-use Rattle.numbers.specs.Bytes.{Bytes, at16, at32, at64, isZero, allZero}
+use lib.ListN.{length, getD, take, drop, length-drop}
+use lib.Seq.{take-all}
+use Rattle.numbers.specs.Bytes.{Bytes, Octets, at16, at32, at64, isZero, allZero}
 use Rattle.slots.specs.Tuples.{tupleSize}
-use Rattle.slots.specs.Slots.{headSize}
+use Rattle.numbers.proofs.Bools.{and-1}
 use Rattle.numbers.proofs.Every.{every-split, every-rest, every-fails}
-use Rattle.numbers.proofs.Zeros.{zero8, zero16, zero32, zero64}
+use Rattle.numbers.proofs.Zeros.{zero-by, zero8, zero16, zero32, zero64}
 
 -- a tuple's place
 pub zero96 : (s : Bytes) (p : ℕ) → p + tupleSize ≤ length s → allZero (take tupleSize (drop p s)) ≡ eqb (at64 s p) 0 && eqb (at32 s (p + 8)) 0
@@ -18,23 +19,40 @@ zero96 s p h =
     ∙ (λ i. zero64 s p (omega arith) i && zero32 s (p + 8) (omega arith) i)
 
 -- the three bytes after the depth
-pub zero24 : (s : Bytes) → 4 ≤ length s → allZero (take 3 (drop 1 s)) ≡ eqb (getD s 1 0) 0 && eqb (at16 s 2) 0
-zero24 s h =
+pub zero24 : (s : Bytes) → Octets s → 4 ≤ length s → allZero (take 3 (drop 1 s)) ≡ eqb (at32 s 0 % 16777216) 0
+zero24 s k h =
     every-split isZero s 1 1 2
     ∙ (λ i. zero8 s 1 (omega arith) i && zero16 s 2 (omega arith) i)
+    ∙ zero-by (at32 s 0 % 16777216) (getD s 1 0) (at16 s 2)
+    (λ e. omega (arith, k 1, k 2, k 3)) (λ e. omega (arith, k 1, k 2, k 3)) (λ e f. omega (arith, k 1, k 2, k 3))
 
--- zero tuples of a slot, from the last down
-module _ (s : Bytes) (k : ℕ) (h : 0 < k) where
-  pub zeros-more : true ≡ allZero (take tupleSize (drop (headSize + tupleSize * (k - 1)) s)) → allZero (drop (headSize + tupleSize * k) s) ≡ true → allZero (drop (headSize + tupleSize * (k - 1)) s) ≡ true
-  zeros-more e z =
-      let q : headSize + tupleSize * (k - 1) + tupleSize ≡ headSize + tupleSize * k = omega arith in
-      sym (every-rest isZero s (headSize + tupleSize * (k - 1)) tupleSize)
-      ∙ (λ i. sym e i && (ap (λ (j : ℕ). allZero (drop j s)) q ∙ z) i)
+-- at a turn: the answer a for n bytes from p on, and b for the next
+pub zeros-next : {a b : Bool} (s : Bytes) (p n : ℕ) → p + n < length s → a ≡ allZero (take n (drop p s)) → b ≡ eqb (getD s (p + n) 0) 0 → a && b ≡ allZero (take (n + 1) (drop p s))
+zeros-next s p n h e f = (λ i. e i && (f ∙ sym (zero8 s (p + n) h)) i) ∙ sym (every-split isZero s p n 1)
 
-  pub zeros-fail : (d : ℕ) → d < k → false ≡ allZero (take tupleSize (drop (headSize + tupleSize * (k - 1)) s)) → false ≡ allZero (drop (headSize + tupleSize * d) s)
-  zeros-fail d g e =
-      let q : headSize + tupleSize * d + tupleSize * (k - 1 - d) ≡ headSize + tupleSize * (k - 1) = omega arith in
-      sym (every-fails isZero s (headSize + tupleSize * d) (tupleSize * (k - 1 - d))
-      (ap (λ (j : ℕ). allZero (drop j s)) q
-      ∙ sym (every-rest isZero s (headSize + tupleSize * (k - 1)) tupleSize)
-      ∙ (λ i. sym e i && allZero (drop (headSize + tupleSize * (k - 1) + tupleSize) s))))
+-- the answers a for the first n bytes from p on, and b for the last n of all, which begin at q
+module _ (s : Bytes) (p n q : ℕ) (h : q + n ≡ length s) (k : p ≤ q) (g : q ≤ p + n) where
+  last-all : allZero (take n (drop q s)) ≡ allZero (drop q s)
+  last-all = let l : length (drop q s) ≤ n = rw length-drop (omega arith) in ap allZero (take-all n (drop q s) l)
+
+  ends-by : (a b : Bool) → a ≡ allZero (take n (drop p s)) → b ≡ allZero (drop q s) → a && b ≡ allZero (drop p s)
+  ends-by false b e f = sym (sym (every-rest isZero s p n) ∙ (λ i. sym e i && allZero (drop (p + n) s)))
+  ends-by true false e f = let z : p + (q - p) ≡ q = omega arith in sym (every-fails isZero s p (q - p) (ap (λ (j : ℕ). allZero (drop j s)) z ∙ sym f))
+  ends-by true true e f =
+      let z : q + (p + n - q) ≡ p + n = omega arith in
+      let later = and-1 (allZero (take (p + n - q) (drop q s))) (allZero (drop (q + (p + n - q)) s)) (every-rest isZero s q (p + n - q) ∙ sym f) in
+      sym (sym (every-rest isZero s p n) ∙ (λ i. sym e i && (ap (λ (j : ℕ). allZero (drop j s)) (sym z) ∙ later) i))
+
+  pub zeros-ends : {a b : Bool} → a ≡ allZero (take n (drop p s)) → b ≡ allZero (take n (drop q s)) → a && b ≡ allZero (drop p s)
+  zeros-ends {a} {b} e f = ends-by a b e (f ∙ last-all)
+
+-- n bytes at p, tested after all that follow them, of bytes that are tested from q on
+module _ (s : Bytes) (p n : ℕ) where
+  pub zeros-more : (r : ℕ) → p + n ≡ r → true ≡ allZero (take n (drop p s)) → allZero (drop r s) ≡ true → allZero (drop p s) ≡ true
+  zeros-more r h e z = sym (every-rest isZero s p n) ∙ (λ i. sym e i && (ap (λ (j : ℕ). allZero (drop j s)) h ∙ z) i)
+
+  pub zeros-fail : (q : ℕ) → q ≤ p → false ≡ allZero (take n (drop p s)) → false ≡ allZero (drop q s)
+  zeros-fail q h e =
+      let k : q + (p - q) ≡ p = omega arith in
+      sym (every-fails isZero s q (p - q)
+      (ap (λ (j : ℕ). allZero (drop j s)) k ∙ sym (every-rest isZero s p n) ∙ (λ i. sym e i && allZero (drop (p + n) s))))

@@ -1,3 +1,4 @@
 pub mod Tuples
 pub mod Slots
+pub mod Looks
 pub mod Laws

@@ -1,86 +1,103 @@
 -- `edits::check_edit` meets its contract. Assumes nothing.
 use mathlib.Core.Path.{_≡_, refl, _∙_, sym, ap}
-use mathlib.Core.Bool.{true, false}
+use mathlib.Core.List.{[], _∷_}
+use mathlib.Core.Bool.{Bool, true, false}
 use borrow.Author.Tests.{not-true, not-false}
 use denote.Ref.{now}
-use Rattle.slots.specs.Slots.{keepsSlot}
+use Rattle.answers.specs.Answers.{_else_, inOrder}
+use Rattle.answers.specs.declared.Refusal.the-variants.{BadLayout, NotRising}
+use Rattle.slots.specs.Slots.{nameOf, keepsSlot}
 use Rattle.slots.proofs.RoundTrip.{kept}
-use Rattle.pages.specs.Pages.{keepsLayout, rises}
-use Rattle.edits.specs.declared.Checked.the-variants.{Found}
+use Rattle.slots.proofs.LookedAt.{tells-broken, tells-falling, tells-rising}
+use Rattle.pages.specs.Pages.{namesOf, keepsLayout, rises}
+use Rattle.pages.specs.Places.{placeOf}
+use Rattle.edits.specs.declared.Checked.{Checked}
+use Rattle.edits.specs.declared.Checked.the-variants.{Refused, Found}
 use borrow.Author.Needs.{needs}
 use Rattle.edits.proofs.check_edit.Statement.{statement}
 use Rattle.edits.proofs.check_edit.Tie as tie
 
-page-ok-requires : tie.Need-page-ok-requires
-page-ok-requires c κs = search needs
-
-returns : tie.Need-returns
-returns c =
-    let p : tie.After-page-ok = search needs in
-    let x : tie.Then1 = search needs in
-    simp (sym (p .page-ok .ensures) ∙ not-true (p .page-ok .result) (x .if1 .taken))
+-- a slot that breaks its layout, whatever the page
+slot-broken : (k r : Bool) (x : Checked) → Refused BadLayout ≡ inOrder (k else BadLayout ∷ false else BadLayout ∷ r else NotRising ∷ []) Refused x
+slot-broken true r x = refl
+slot-broken false r x = refl
 
 slot-ok-requires : tie.Need-slot-ok-requires
 slot-ok-requires c κs = search needs
 
-returns-2 : tie.Need-returns-2
-returns-2 c =
-    let p : tie.After-page-ok = search needs in
-    let x : tie.Else1 = search needs in
-    let q : tie.After-slot-ok = search needs in
-    let y : tie.Then2 = search needs in
-    simp (sym (p .page-ok .ensures) ∙ not-false (p .page-ok .result) (x .if1 .left), sym (q .slot-ok .ensures) ∙ not-true (q .slot-ok .result) (y .if2 .taken))
+returns : tie.Need-returns
+returns c =
+    let after-slot-ok : tie.After-slot-ok = search needs in
+    let start : tie.Start = search needs in
+    let page = now (start .args .page) in
+    let slot = now (start .args .slot) in
+    let broken : keepsSlot slot ≡ false = sym (after-slot-ok .slot-ok .ensures) ∙ not-true (after-slot-ok .slot-ok .result) (c .if1 .taken) in
+    simp broken (slot-broken (keepsLayout page) (rises page) (Found (placeOf (nameOf slot) (namesOf page))))
 
-page-rises-requires : tie.Need-page-rises-requires
-page-rises-requires c κs = search needs
+look-requires : tie.Need-look-requires
+look-requires c κs = search needs
 
-returns-3 : tie.Need-returns-3
-returns-3 c =
-    let s : tie.Start = search needs in
-    let p : tie.After-page-ok = search needs in
-    let x : tie.Else1 = search needs in
-    let q : tie.After-slot-ok = search needs in
-    let y : tie.Else2 = search needs in
-    let r : tie.After-page-rises = search needs in
-    let z : tie.Then3 = search needs in
-    let layout : keepsLayout (now (s .args .page)) ≡ true = sym (p .page-ok .ensures) ∙ not-false (p .page-ok .result) (x .if1 .left) in
-    let slot-layout : keepsSlot (now (s .args .slot)) ≡ true = sym (q .slot-ok .ensures) ∙ not-false (q .slot-ok .result) (y .if2 .left) in
-    let order : rises (now (s .args .page)) ≡ false = sym (r .page-rises .ensures) ∙ not-true (r .page-rises .result) (z .if3 .taken) in
-    simp (layout, slot-layout, order)
+enum-told : tie.Need-enum-told
+enum-told c = search needs
+
+enum-told-2 : tie.Need-enum-told-2
+enum-told-2 c = search needs
+
+enum-told-3 : tie.Need-enum-told-3
+enum-told-3 c = search needs
 
 find-requires : tie.Need-find-requires
 find-requires c κs =
-    let s : tie.Start = search needs in
-    let q : tie.After-slot-ok = search needs in
-    let y : tie.Else2 = search needs in
-    let r : tie.After-page-rises = search needs in
-    let z : tie.Else3 = search needs in
-    let slot-layout = sym (q .slot-ok .ensures) ∙ not-false (q .slot-ok .result) (y .if2 .left) in
-    (kept (now (s .args .slot)) slot-layout .long, sym (r .page-rises .ensures) ∙ not-false (r .page-rises .result) (z .if3 .left))
+    let after-enum-told3 : tie.After-enum-told3 = search needs in
+    let after-look : tie.After-look = search needs in
+    let else1 : tie.Else1 = search needs in
+    let after-slot-ok : tie.After-slot-ok = search needs in
+    let start : tie.Start = search needs in
+    let page = now (start .args .page) in
+    let slot-layout = sym (after-slot-ok .slot-ok .ensures) ∙ not-false (after-slot-ok .slot-ok .result) (else1 .if1 .left) in
+    (kept (now (start .args .slot)) slot-layout .long, tells-rising (keepsLayout page) (rises page) (sym (after-enum-told3 .enum-told3 .given .1) ∙ after-look .look .ensures) .1)
+
+returns-2 : tie.Need-returns-2
+returns-2 c =
+    let after-look : tie.After-look = search needs in
+    let start : tie.Start = search needs in
+    let page = now (start .args .page) in
+    simp (tells-broken (keepsLayout page) (rises page) (sym (c .enum-told .given .1) ∙ after-look .look .ensures))
+
+returns-3 : tie.Need-returns-3
+returns-3 c =
+    let after-look : tie.After-look = search needs in
+    let else1 : tie.Else1 = search needs in
+    let after-slot-ok : tie.After-slot-ok = search needs in
+    let start : tie.Start = search needs in
+    let page = now (start .args .page) in
+    let slot-layout : keepsSlot (now (start .args .slot)) ≡ true = sym (after-slot-ok .slot-ok .ensures) ∙ not-false (after-slot-ok .slot-ok .result) (else1 .if1 .left) in
+    let told = tells-falling (keepsLayout page) (rises page) (sym (c .enum-told2 .given .1) ∙ after-look .look .ensures) in
+    simp (told .0, slot-layout, told .1)
 
 returns-4 : tie.Need-returns-4
 returns-4 c =
-    let s : tie.Start = search needs in
-    let p : tie.After-page-ok = search needs in
-    let x : tie.Else1 = search needs in
-    let q : tie.After-slot-ok = search needs in
-    let y : tie.Else2 = search needs in
-    let r : tie.After-page-rises = search needs in
-    let z : tie.Else3 = search needs in
-    let layout : keepsLayout (now (s .args .page)) ≡ true = sym (p .page-ok .ensures) ∙ not-false (p .page-ok .result) (x .if1 .left) in
-    let slot-layout : keepsSlot (now (s .args .slot)) ≡ true = sym (q .slot-ok .ensures) ∙ not-false (q .slot-ok .result) (y .if2 .left) in
-    let order : rises (now (s .args .page)) ≡ true = sym (r .page-rises .ensures) ∙ not-false (r .page-rises .result) (z .if3 .left) in
-    simp (layout, slot-layout, order) (ap Found (c .find .ensures))
+    let after-enum-told3 : tie.After-enum-told3 = search needs in
+    let after-look : tie.After-look = search needs in
+    let else1 : tie.Else1 = search needs in
+    let after-slot-ok : tie.After-slot-ok = search needs in
+    let start : tie.Start = search needs in
+    let page = now (start .args .page) in
+    let slot-layout : keepsSlot (now (start .args .slot)) ≡ true = sym (after-slot-ok .slot-ok .ensures) ∙ not-false (after-slot-ok .slot-ok .result) (else1 .if1 .left) in
+    let told = tells-rising (keepsLayout page) (rises page) (sym (after-enum-told3 .enum-told3 .given .1) ∙ after-look .look .ensures) in
+    simp (told .0, slot-layout, told .1) (ap Found (c .find .ensures))
 
 pub check-edit-spec : {M : Type 1} → statement M
 check-edit-spec =
     tie.close
     (tie.spec
-    page-ok-requires
-    returns
     slot-ok-requires
-    returns-2
-    page-rises-requires
-    returns-3
+    returns
+    look-requires
+    enum-told
+    enum-told-2
+    enum-told-3
     find-requires
+    returns-2
+    returns-3
     returns-4)

@@ -43,7 +43,7 @@ write-with-requires c κs =
     let k : tie.After-shared-slice-known2 = search needs in
     let g = gap-within (at-gap k) in
     let l = slot-long (at-gap k) in
-    (omega arith, omega arith)
+    (omega arith, l, omega arith)
 
 add-t9 : tie.Need-add-t9
 add-t9 c = search needs

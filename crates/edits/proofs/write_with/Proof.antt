@@ -26,8 +26,15 @@ copy-requires c κs =
     let start : tie.Start = search needs in
     omega (arith, length-take (slotSize * start .args .k) (now (start .args .page)))
 
+slice-aggregate-copy-2 : tie.Need-slice-aggregate-copy-2
+slice-aggregate-copy-2 c =
+    let start : tie.Start = search needs in
+    sym (length-take-le slotSize (now (start .args .slot)) (omega (arith, start .pre .1)))
+
 copy-requires-2 : tie.Need-copy-requires-2
-copy-requires-2 c κs = search needs
+copy-requires-2 c κs =
+    let start : tie.Start = search needs in
+    omega (arith, length-take slotSize (now (start .args .slot)))
 
 add-copy : tie.Need-add-copy
 add-copy c = search needs
@@ -60,10 +67,11 @@ returns c =
     let l = length-take-le p s (start .pre .0) in
     let q : p ≡ 0 + length (take p s) = omega (arith, l) in
     let a = length-append (take p s) x in
-    let r : p + length x ≡ 0 + length (take p s ++ x) = omega (arith, l, a) in
+    let r : p + slotSize ≡ 0 + length (take p s ++ x) = omega (arith, l, a, start .pre .1) in
     let t : take (length s - p) (drop p s) ≡ drop p s = take-all (length s - p) (drop p s) (omega (arith, length-drop p s)) in
-    let d₁ = put-more o 0 (omega arith) (take p s) x (after-copy .copy .ensures) q (after-copy2 .copy2 .ensures) in
-    put-more o 0 (omega arith) (take p s ++ x) (drop p s) d₁ r (after-copy3 .copy3 .ensures ∙ ap (λ (w : Bytes). put (after-copy2 .copy2 .last .0) (p + length x) w) t)
+    let u : take slotSize x ≡ x = take-all slotSize x (omega (arith, start .pre .1)) in
+    let d₁ = put-more o 0 (omega arith) (take p s) x (after-copy .copy .ensures) q (after-copy2 .copy2 .ensures ∙ ap (put (after-copy .copy .last .0) p) u) in
+    put-more o 0 (omega arith) (take p s ++ x) (drop p s) d₁ r (after-copy3 .copy3 .ensures ∙ ap (λ (w : Bytes). put (after-copy2 .copy2 .last .0) (p + slotSize) w) t)
 
 pub write-with-spec : {M : Type 1} → statement M
 write-with-spec =
@@ -72,6 +80,7 @@ write-with-spec =
     mul-p
     slice-aggregate-copy
     copy-requires
+    slice-aggregate-copy-2
     copy-requires-2
     add-copy
     sub-copy

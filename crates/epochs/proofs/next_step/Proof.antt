@@ -1,15 +1,13 @@
 -- `epochs::next_step` meets its contract. Assumes nothing.
 use mathlib.Core.Path.{sym, ap, _∙_}
-use Prim.Native.Nat.{ℕ, _<_, _≤_}
+use Prim.Native.Nat.{_<_, _≤_}
 use native.Mathlib.Omega.{arith}
 use denote.Ref.{now}
 use lib.ListN.{length}
 use borrow.Author.Tests.{lt-ltb, le-ltb, not-true, not-false}
 use Rattle.epoch_tree.specs.Tables.{entriesOf}
-use Rattle.epoch_tree.specs.Tree.{target, stepTo}
 use Rattle.epochs.specs.Calls.{nextStepOutcome}
-use Rattle.epoch_tree.proofs.OrderAndTarget.{target-in}
-use Rattle.epoch_tree.proofs.TableBytes.{checked, length-entries}
+use Rattle.epoch_tree.proofs.TableBytes.{length-entries}
 use Rattle.epochs.specs.declared.Next.the-variants.{Take}
 use borrow.Author.Needs.{needs}
 use Rattle.epochs.proofs.next_step.Statement.{statement}
@@ -27,47 +25,33 @@ returns c =
 returns-2 : tie.Need-returns-2
 unfolding nextStepOutcome
 returns-2 c =
-    let start : tie.Start = search needs in
-    let asked : tie.After-table-ok = search needs in
     let good : tie.Else1 = search needs in
+    let asked : tie.After-table-ok = search needs in
+    let start : tie.Start = search needs in
     let kept = sym (asked .table-ok .ensures) ∙ not-false (asked .table-ok .result) (good .if1 .left) in
     let t = entriesOf (now (start .args .table)) in
     let past : length t ≤ start .args .current = omega (arith, length-entries (now (start .args .table))) in
     simp (kept, le-ltb (start .args .current) (length t) past)
 
-target-requires : tie.Need-target-requires
-target-requires c κs =
-    let asked : tie.After-table-ok = search needs in
+step-in-requires : tie.Need-step-in-requires
+step-in-requires c κs =
+    let inside : tie.Else2 = search needs in
     let good : tie.Else1 = search needs in
-    let kept = sym (asked .table-ok .ensures) ∙ not-false (asked .table-ok .result) (good .if1 .left) in
-    kept
-
-step-to-requires : tie.Need-step-to-requires
-step-to-requires c κs =
+    let asked : tie.After-table-ok = search needs in
     let start : tie.Start = search needs in
-    let asked : tie.After-table-ok = search needs in
-    let good : tie.Else1 = search needs in
-    let kept = sym (asked .table-ok .ensures) ∙ not-false (asked .table-ok .result) (good .if1 .left) in
-    let t = entriesOf (now (start .args .table)) in
-    let inside : target t < length t = target-in t (checked (now (start .args .table)) kept) in
-    let n = length-entries (now (start .args .table)) in
-    let e = c .target .ensures in
-    (kept, omega arith, omega arith)
+    (sym (asked .table-ok .ensures) ∙ not-false (asked .table-ok .result) (good .if1 .left), inside .if2 .left)
 
 returns-3 : tie.Need-returns-3
 unfolding nextStepOutcome
 returns-3 c =
-    let start : tie.Start = search needs in
-    let asked : tie.After-table-ok = search needs in
     let good : tie.Else1 = search needs in
+    let asked : tie.After-table-ok = search needs in
+    let start : tie.Start = search needs in
     let kept = sym (asked .table-ok .ensures) ∙ not-false (asked .table-ok .result) (good .if1 .left) in
-    let goal : tie.After-target = search needs in
     let t = entriesOf (now (start .args .table)) in
     let inside : start .args .current < length t = omega (arith, length-entries (now (start .args .table))) in
-    let step = c .step-to .ensures ∙ ap (λ (d : ℕ). stepTo t d (start .args .current)) (goal .target .ensures) in
-    simp (kept, lt-ltb (start .args .current) (length t) inside) (ap Take step)
+    simp (kept, lt-ltb (start .args .current) (length t) inside) (ap Take (c .step-in .ensures))
 
 pub next-step-spec : {M : Type 1} → statement M
 next-step-spec =
-    tie.close
-    (tie.spec table-ok-requires returns returns-2 target-requires step-to-requires returns-3)
+    tie.close (tie.spec table-ok-requires returns returns-2 step-in-requires returns-3)

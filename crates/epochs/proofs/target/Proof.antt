@@ -4,7 +4,7 @@ use Prim.Native.Nat.{ℕ, _-_, _/_, _<_, _≤_}
 use native.Mathlib.Omega.{arith}
 use denote.Ref.{now}
 use borrow.Author.Needs.{needs}
-use lib.ListN.{length}
+use lib.ListN.{length, take, length-take}
 use Rattle.epoch_tree.specs.Tables.{entrySize, entriesOf}
 use Rattle.epoch_tree.specs.Tree.{greater, greatestTo}
 use Rattle.epoch_tree.proofs.OrderAndTarget.{greatest-in}
@@ -14,28 +14,30 @@ use Rattle.epochs.proofs.target.Statement.{statement}
 use Rattle.epochs.proofs.target.Tie as tie
 
 abbrev Inv-loop : tie.InvT-loop
-Inv-loop table n best₀ k₀ best k =
-    (n ≡ length table / entrySize) × (1 ≤ k) × (k ≤ n) × (best ≡ greatestTo (entriesOf table) (k - 1))
+Inv-loop tree size n best₀ k₀ best k =
+    (n ≡ length (take size tree) / entrySize) × (1 ≤ k) × (k ≤ n) × (best ≡ greatestTo (entriesOf (take size tree)) (k - 1))
 
 abbrev μ-loop : tie.MeasureT-loop
-μ-loop table n best₀ k₀ best k = n - k
+μ-loop tree size n best₀ k₀ best k = n - k
 
 loop-holds : tie.Need-loop-holds Inv-loop μ-loop
 loop-holds c =
     let start : tie.Start Inv-loop μ-loop = search needs in
-    let some : 0 < length (entriesOf (now (start .args .table))) = checked (now (start .args .table)) (start .pre) .some in
-    let n = length-entries (now (start .args .table)) in
-    (refl, omega arith, omega arith, refl)
+    let s = take (start .args .size) (now (start .args .tree)) in
+    let some : 0 < length (entriesOf s) = checked s (start .pre .0) .some in
+    let n = length-entries s in
+    let l = length-take (start .args .size) (now (start .args .tree)) in
+    (omega arith, omega arith, omega arith, refl)
 
 greater-of-requires : tie.Need-greater-of-requires Inv-loop μ-loop
 greater-of-requires c κs =
-    let start : tie.Start Inv-loop μ-loop = search needs in
     let at : tie.At-loop Inv-loop μ-loop = search needs in
-    let t = entriesOf (now (start .args .table)) in
+    let start : tie.Start Inv-loop μ-loop = search needs in
+    let s = take (start .args .size) (now (start .args .tree)) in
     let k = at .loop .k in
-    let below : greatestTo t (k - 1) ≤ k - 1 = greatest-in t (checked (now (start .args .table)) (start .pre)) (k - 1) in
+    let below : greatestTo (entriesOf s) (k - 1) ≤ k - 1 = greatest-in (entriesOf s) (checked s (start .pre .0)) (k - 1) in
     let best = at .loop .inv .3 in
-    (start .pre, omega arith, omega arith)
+    (start .pre .0, omega arith, omega arith)
 
 add-k : tie.Need-add-k Inv-loop μ-loop
 add-k c = omega arith
@@ -45,21 +47,21 @@ loop-less c = omega arith
 
 loop-again : tie.Need-loop-again Inv-loop μ-loop
 loop-again c =
-    let start : tie.Start Inv-loop μ-loop = search needs in
     let at : tie.At-loop Inv-loop μ-loop = search needs in
-    let t = entriesOf (now (start .args .table)) in
+    let start : tie.Start Inv-loop μ-loop = search needs in
+    let t = entriesOf (take (start .args .size) (now (start .args .tree))) in
     let k = at .loop .k in
     let better = c .greater-of .ensures ∙ ap (λ (b : ℕ). greater t b k) (at .loop .inv .3) ∙ greatest-turn t k (at .loop .inv .1) in
     (at .loop .inv .0, omega arith, omega arith, better)
 
 returns : tie.Need-returns Inv-loop μ-loop
 returns c =
-    let start : tie.Start Inv-loop μ-loop = search needs in
     let at : tie.At-loop Inv-loop μ-loop = search needs in
-    let t = entriesOf (now (start .args .table)) in
-    let n = length-entries (now (start .args .table)) in
-    let last : at .loop .k - 1 ≡ length t - 1 = omega arith in
-    at .loop .inv .3 ∙ ap (greatestTo t) last
+    let start : tie.Start Inv-loop μ-loop = search needs in
+    let s = take (start .args .size) (now (start .args .tree)) in
+    let n = length-entries s in
+    let last : at .loop .k - 1 ≡ length (entriesOf s) - 1 = omega arith in
+    at .loop .inv .3 ∙ ap (greatestTo (entriesOf s)) last
 
 pub target-spec : {M : Type 1} → statement M
 target-spec =

@@ -6,7 +6,8 @@ use denote.Ref.{now}
 use lib.ListN.{length}
 use Rattle.slots.specs.Tuples.{rowAt}
 use Rattle.slots.proofs.TuplesInBytes.{length-tuplesAt, getD-tuplesAt}
-use Rattle.new_names.proofs.Rules.{given, close-short, close-apart, close-before}
+use Rattle.new_names.proofs.Rules.{close-short, close-apart, close-before}
+use Rattle.new_names.proofs.PartsOfNames.{given}
 use borrow.Author.Needs.{needs}
 use Rattle.new_names.proofs.close_by.Statement.{statement}
 use Rattle.new_names.proofs.close_by.Tie as tie
@@ -24,7 +25,7 @@ returns c =
     let a = rowAt s x in
     let b = rowAt s y in
     let h : length b ≤ length a = rw (length-tuplesAt s (x .at) (x .count), length-tuplesAt s (y .at) (y .count)) (then1 .if1 .taken) in
-    given (c .right-after .result) (close-short (start .args .author) a b h) (c .right-after .ensures)
+    given s (c .right-after .result) (close-short (start .args .author) a b h) (c .right-after .ensures s (start .pre .0))
 
 is-prefix-requires : tie.Need-is-prefix-requires
 is-prefix-requires c κs = search needs
@@ -44,7 +45,7 @@ returns-2 c =
     let b = rowAt s y in
     let p = after-is-prefix .is-prefix in
     let g = close-apart (start .args .author) a b (x .count) (p .ensures) (not-true (p .result) (then2 .if2 .taken)) in
-    given (c .right-after2 .result) g (c .right-after2 .ensures)
+    given s (c .right-after2 .result) g (c .right-after2 .ensures s (start .pre .0))
 
 mul-read-tuple : tie.Need-mul-read-tuple
 mul-read-tuple c = search needs
@@ -75,7 +76,7 @@ returns-3 c =
     let h : x .count < length b = rw (length-tuplesAt s (y .at) (y .count)) (else1 .if1 .left) in
     let t = after-read-tuple .read-tuple .ensures ∙ sym (getD-tuplesAt s (y .at) (y .count) (x .count) (else1 .if1 .left)) in
     let g = close-before (start .args .author) a b (x .count) (p .ensures) f h t in
-    given (c .before-tuple .result) g (c .before-tuple .ensures)
+    given s (c .before-tuple .result) g (c .before-tuple .ensures s (start .pre .0))
 
 pub close-by-spec : {M : Type 1} → statement M
 close-by-spec =

@@ -1,15 +1,14 @@
 -- `new_names::new_between` meets its contract. Assumes nothing.
 use native.Mathlib.Omega.{arith}
 use Prim.Native.Nat.{ℕ, _+_, _/_, _<_, _≤_}
-use mathlib.Core.Path.{_≡_, refl, ap, _∙_}
+use mathlib.Core.Path.{_≡_, ap, _∙_}
 use mathlib.Core.List.{[], _∷_}
+use mathlib.Core.Option.{some}
 use denote.Ref.{now}
-use Rattle.names.specs.declared.Tuple.{Tuple}
-use Rattle.names.specs.Names.{valueOf}
 use Rattle.slots.specs.Tuples.{rowAt}
-use Rattle.answers.specs.declared.Answer.the-variants.{Accepted}
 use Rattle.new_names.specs.NewNames.{firstBefore, firstAfter, own}
-use Rattle.new_names.proofs.Rules.{given, new-apart, new-close}
+use Rattle.new_names.proofs.Rules.{new-apart, new-close}
+use Rattle.new_names.proofs.PartsOfNames.{given}
 use borrow.Author.Needs.{needs}
 use Rattle.new_names.proofs.new_between.Statement.{statement}
 use Rattle.new_names.proofs.new_between.Tie as tie
@@ -32,8 +31,8 @@ cast-own c = search needs
 own-requires : tie.Need-own-requires
 own-requires c κs = search needs
 
-one-requires : tie.Need-one-requires
-one-requires c κs = search needs
+one-more-requires : tie.Need-one-more-requires
+one-more-requires c κs = search needs
 
 returns : tie.Need-returns
 returns c =
@@ -41,15 +40,17 @@ returns c =
     let after-first-after : tie.After-first-after = search needs in
     let after-first-before : tie.After-first-before = search needs in
     let start : tie.Start = search needs in
-    let a = rowAt (now (start .args .page)) (start .args .a) in
-    let b = rowAt (now (start .args .page)) (start .args .b) in
+    let s = now (start .args .page) in
+    let a = rowAt s (start .args .a) in
+    let b = rowAt s (start .args .b) in
     let author = start .args .author in
     let h : firstBefore a + 2 ≤ firstAfter b = omega arith in
     let low = after-first-before .first-before in
     let high = after-first-after .first-after in
     let p : (low .result + high .result) / 2 ≡ (firstBefore a + firstAfter b) / 2 = λ i. (low .ensures .0 i + high .ensures .0 i) / 2 in
-    let e = c .one .ensures ∙ ap (λ (t : Tuple). valueOf (t ∷ [])) (after-own .own .ensures ∙ ap (λ (n : ℕ). own author n) p) in
-    given (record { answer = Accepted 0; name = c .one .result }) (new-apart author a b h) (refl, e)
+    let t = after-own .own .ensures ∙ ap (λ (n : ℕ). own author n) p in
+    let g = (λ i. some (t i ∷ [])) ∙ new-apart author a b h in
+    given s (c .one-more .result) g (c .one-more .ensures s (omega arith, omega arith))
 
 close-by-requires : tie.Need-close-by-requires
 close-by-requires c κs = search needs
@@ -57,10 +58,11 @@ close-by-requires c κs = search needs
 returns-2 : tie.Need-returns-2
 returns-2 c =
     let start : tie.Start = search needs in
-    let a = rowAt (now (start .args .page)) (start .args .a) in
-    let b = rowAt (now (start .args .page)) (start .args .b) in
+    let s = now (start .args .page) in
+    let a = rowAt s (start .args .a) in
+    let b = rowAt s (start .args .b) in
     let h : firstAfter b < firstBefore a + 2 = omega arith in
-    given (c .close-by .result) (new-close (start .args .author) a b h) (c .close-by .ensures)
+    given s (c .close-by .result) (new-close (start .args .author) a b h) (c .close-by .ensures)
 
 pub new-between-spec : {M : Type 1} → statement M
 new-between-spec =
@@ -72,7 +74,7 @@ new-between-spec =
     add-own
     cast-own
     own-requires
-    one-requires
+    one-more-requires
     returns
     close-by-requires
     returns-2)

@@ -39,7 +39,7 @@ strip-below-requires c κs = search needs
 under-requires : tie.Need-under-requires
 under-requires c κs =
     let start : tie.Start = search needs in
-    (omega (arith, logged (now (start .args .log)) (start .pre .0) .some), c .strip-below .ensures .0)
+    (omega (arith, logged (now (start .args .log)) (start .pre .0) .some), start .pre .1, c .strip-below .ensures .0, c .strip-below .ensures .1)
 
 returns : tie.Need-returns
 returns c =
@@ -56,7 +56,7 @@ returns c =
     let x = rowAt (now (a .s)) (a .c) in
     let u = after-lead .lead .ensures ∙ ap (λ (n : ℕ). lead n (a .author) (pos 0)) (after-first-position .first-position .ensures) in
     let h = is-under x (N p (a .author) 0) (low-as refl u (after-is-below .is-below .ensures) (then1 .if1 .taken)) in
-    let v = after-strip-below .strip-below .ensures .1 ∙ ap (λ (n : ℕ). stripBelow n (a .author) x) (after-first-position .first-position .ensures) in
+    let v = after-strip-below .strip-below .ensures .2 ∙ ap (λ (n : ℕ). stripBelow n (a .author) x) (after-first-position .first-position .ensures) in
     (c .under .ensures .0, c .under .ensures .1 ∙ ap (under (getD (namesOf log) 0 [])) v ∙ back-under (a .author) x (namesOf log) (l .some) h)
 
 sub-last : tie.Need-sub-last
@@ -84,7 +84,7 @@ over-requires : tie.Need-over-requires
 over-requires c κs =
     let start : tie.Start = search needs in
     let l = logged (now (start .args .log)) (start .pre .0) in
-    (omega (arith, l .some, l .count), c .strip-above .ensures .0)
+    (omega (arith, l .some, l .count), start .pre .1, c .strip-above .ensures .0, c .strip-above .ensures .1)
 
 returns-2 : tie.Need-returns-2
 returns-2 c =
@@ -103,7 +103,7 @@ returns-2 c =
     let d = after-numbered .numbered .ensures ∙ ap (λ (n : ℕ). lead n (a .author) (pos k)) (after-first-position .first-position .ensures) in
     let e : suc k ≡ length (namesOf log) = omega (arith, l .some, l .count) in
     let h = is-under (N p (a .author) k) x (above-as x d (after-is-above .is-above .ensures) (then2 .if2 .taken)) in
-    let v = after-strip-above .strip-above .ensures .1 ∙ ap (λ (n : ℕ). stripAbove n (a .author) k x) (after-first-position .first-position .ensures) in
+    let v = after-strip-above .strip-above .ensures .2 ∙ ap (λ (n : ℕ). stripAbove n (a .author) k x) (after-first-position .first-position .ensures) in
     (c .over .ensures .0, c .over .ensures .1 ∙ (λ i. over (getD (namesOf log) k []) (v i) (v i)) ∙ back-over (a .author) x (namesOf log) k e h)
 
 back-within-requires : tie.Need-back-within-requires

@@ -5,7 +5,7 @@ use Prim.Native.Nat.{ℕ, suc, _-_, _<_, _≤_}
 use native.Mathlib.Numerals.{add-one}
 use native.Mathlib.Omega.{arith}
 use denote.Ref.{now}
-use lib.ListN.{length, getD}
+use lib.ListN.{length, getD, drop}
 use Rattle.slots.specs.Tuples.{rowAt}
 use Rattle.slots.proofs.TuplesInBytes.{length-tuplesAt}
 use Rattle.pages.specs.Pages.{namesOf}
@@ -48,14 +48,8 @@ returns c =
     let i : k < length (namesOf log) = omega (arith, l .some) in
     (i, back-logged (a .author) x (namesOf log) k i (v .0) (omega arith))
 
-tail-requires : tie.Need-tail-requires
-tail-requires c κs =
-    let start : tie.Start = search needs in
-    (start .pre .0 .1, omega arith)
-
 between-requires : tie.Need-between-requires
 between-requires c κs =
-    let after-tail : tie.After-tail = search needs in
     let else1 : tie.Else1 = search needs in
     let after-index-of : tie.After-index-of = search needs in
     let start : tie.Start = search needs in
@@ -70,11 +64,10 @@ between-requires c κs =
     let v = within-at p (a .author) w k (after-index-of .index-of .ensures) in
     let deep = length-tuplesAt (now (a .s)) (a .c .at) (a .c .count) in
     let h = v .1 in
-    (omega (arith, v .2 (omega (arith, else1 .if1 .left)), l .some), after-tail .tail .ensures .0)
+    (omega (arith, v .2 (omega (arith, else1 .if1 .left)), l .some), start .pre .0 .1, omega arith)
 
 returns-2 : tie.Need-returns-2
 returns-2 c =
-    let after-tail : tie.After-tail = search needs in
     let else1 : tie.Else1 = search needs in
     let after-index-of : tie.After-index-of = search needs in
     let start : tie.Start = search needs in
@@ -94,7 +87,7 @@ returns-2 c =
     let i : suc k < length (namesOf log) = omega (arith, r, l .some) in
     let q = ap (λ (j : ℕ). getD (namesOf log) j []) (add-one k) in
     let gap = back-in-gap (a .author) x (namesOf log) k i (v .0) two in
-    (c .between .ensures .0, c .between .ensures .1 ∙ (λ j. backBetween (getD (namesOf log) k []) (q j) (after-tail .tail .ensures .1 j)) ∙ gap)
+    (c .between .ensures .0, c .between .ensures .1 ∙ (λ j. backBetween (getD (namesOf log) k []) (q j) (drop 1 x)) ∙ gap)
 
 pub back-within-spec : {M : Type 1} → statement M
 back-within-spec =
@@ -102,6 +95,5 @@ back-within-spec =
     (tie.spec
     index-of-requires
     returns
-    tail-requires
     between-requires
     returns-2)

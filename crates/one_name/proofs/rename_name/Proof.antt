@@ -1,9 +1,10 @@
 -- `one_name::rename_name` meets its contract. Assumes nothing.
-use mathlib.Core.Path.{ap}
+use mathlib.Core.Path.{sym}
 use denote.Ref.{now}
+use Rattle.names.specs.Names.{rowOf}
 use Rattle.pages.specs.Pages.{namesOf}
 use Rattle.name_values.proofs.GivenRows.{gives}
-use Rattle.name_renames.specs.Renaming.{rename}
+use Rattle.one_name.proofs.RenamedByChange.{renamed}
 use borrow.Author.Needs.{needs}
 use Rattle.one_name.proofs.rename_name.Statement.{statement}
 use Rattle.one_name.proofs.rename_name.Tie as tie
@@ -20,22 +21,21 @@ slice-aggregate-walk c = search needs
 walk-requires : tie.Need-walk-requires
 walk-requires c κs = search needs
 
-slice-aggregate-renamed-by : tie.Need-slice-aggregate-renamed-by
-slice-aggregate-renamed-by c = search needs
+change-of-requires : tie.Need-change-of-requires
+change-of-requires c κs = search needs
 
-renamed-by-requires : tie.Need-renamed-by-requires
-renamed-by-requires c κs =
-    let after-walk : tie.After-walk = search needs in
-    let after-stand : tie.After-stand = search needs in
-    let start : tie.Start = search needs in
-    (start .pre, after-stand .stand .ensures .0, after-walk .walk .ensures .1)
+changed-requires : tie.Need-changed-requires
+changed-requires c κs = search needs
 
 returns : tie.Need-returns
 returns c =
+    let after-change-of : tie.After-change-of = search needs in
+    let after-walk : tie.After-walk = search needs in
     let after-stand : tie.After-stand = search needs in
     let start : tie.Start = search needs in
-    let f = rename (start .args .author) (namesOf (now (start .args .log))) in
-    gives (c .renamed-by .result) (ap f (after-stand .stand .ensures .1)) (c .renamed-by .ensures)
+    let x = start .args in
+    let same = after-stand .stand .ensures .1 in
+    gives (c .changed .result) (renamed (x .author) (namesOf (now (x .log))) (rowOf (x .x)) (sym same) (after-walk .walk .ensures .1) (after-change-of .change-of .ensures)) (c .changed .ensures)
 
 pub rename-name-spec : {M : Type 1} → statement M
 rename-name-spec =
@@ -45,6 +45,6 @@ rename-name-spec =
     stand-requires
     slice-aggregate-walk
     walk-requires
-    slice-aggregate-renamed-by
-    renamed-by-requires
+    change-of-requires
+    changed-requires
     returns)

@@ -1,6 +1,7 @@
 -- `one_name::strip_above` meets its contract. Assumes nothing.
 use mathlib.Core.Path.{_∙_, sym}
 use borrow.Author.Tests.{not-true, not-false}
+use Prim.Native.Nat.{_≤_}
 use native.Mathlib.Omega.{arith}
 use denote.Ref.{now}
 use Rattle.slots.specs.Tuples.{rowAt}
@@ -24,10 +25,10 @@ returns c =
     let x = start .args in
     let a = rowAt (now (x .s)) (x .c) in
     let b = begins-as a (first .numbered .ensures) (begun .begins .ensures) (not-true (begun .begins .result) (c .if1 .taken)) in
-    (start .pre .1, above-kept (x .p) (x .author) (x .k) a b)
+    (omega arith, omega arith, above-kept (x .p) (x .author) (x .k) a b)
 
-tail-requires : tie.Need-tail-requires
-tail-requires c κs =
+without-requires : tie.Need-without-requires
+without-requires c κs =
     let start : tie.Start = search needs in
     let first : tie.After-numbered = search needs in
     let begun : tie.After-begins = search needs in
@@ -42,8 +43,8 @@ numbered-requires-2 c κs = search needs
 
 is-below-requires : tie.Need-is-below-requires
 is-below-requires c κs =
-    let cut : tie.After-tail = search needs in
-    cut .tail .ensures .0
+    let cut : tie.After-without = search needs in
+    cut .without .ensures .0
 
 returns-2 : tie.Need-returns-2
 returns-2 c =
@@ -51,15 +52,17 @@ returns-2 c =
     let first : tie.After-numbered = search needs in
     let begun : tie.After-begins = search needs in
     let on : tie.Else1 = search needs in
-    let cut : tie.After-tail = search needs in
+    let cut : tie.After-without = search needs in
     let second : tie.After-numbered2 = search needs in
     let low : tie.After-is-below = search needs in
     let x = start .args in
     let a = rowAt (now (x .s)) (x .c) in
     let b = begins-as a (first .numbered .ensures) (begun .begins .ensures) (not-false (begun .begins .result) (on .if1 .left)) in
-    let d = cut .tail .ensures .1 in
+    let d = cut .without .ensures .1 in
     let l = low-as d (second .numbered2 .ensures) (low .is-below .ensures) (c .if2 .taken) in
-    (cut .tail .ensures .0, d ∙ above-cut (x .p) (x .author) (x .k) a b l)
+    let long = begins-long a (first .numbered .result) (sym (begun .begins .ensures) ∙ not-false (begun .begins .result) (on .if1 .left)) in
+    let deep : 1 ≤ x .c .count = omega (arith, long, length-tuplesAt (now (x .s)) (x .c .at) (x .c .count)) in
+    (deep, omega arith, above-cut (x .p) (x .author) (x .k) a b l)
 
 returns-3 : tie.Need-returns-3
 returns-3 c =
@@ -67,15 +70,15 @@ returns-3 c =
     let first : tie.After-numbered = search needs in
     let begun : tie.After-begins = search needs in
     let on : tie.Else1 = search needs in
-    let cut : tie.After-tail = search needs in
+    let cut : tie.After-without = search needs in
     let second : tie.After-numbered2 = search needs in
     let low : tie.After-is-below = search needs in
     let x = start .args in
     let a = rowAt (now (x .s)) (x .c) in
     let b = begins-as a (first .numbered .ensures) (begun .begins .ensures) (not-false (begun .begins .result) (on .if1 .left)) in
-    let d = cut .tail .ensures .1 in
+    let d = cut .without .ensures .1 in
     let l = low-as d (second .numbered2 .ensures) (low .is-below .ensures) (c .if2 .left) in
-    (start .pre .1, above-high (x .p) (x .author) (x .k) a b l)
+    (omega arith, omega arith, above-high (x .p) (x .author) (x .k) a b l)
 
 pub strip-above-spec : {M : Type 1} → statement M
 strip-above-spec =
@@ -84,7 +87,7 @@ strip-above-spec =
     numbered-requires
     begins-requires
     returns
-    tail-requires
+    without-requires
     numbered-requires-2
     is-below-requires
     returns-2

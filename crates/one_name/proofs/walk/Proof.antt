@@ -3,7 +3,7 @@ use mathlib.Core.Path.{_∙_, sym, ap}
 use denote.Ref.{now}
 use Rattle.slots.specs.Tuples.{rowAt}
 use Rattle.pages.specs.Pages.{namesOf}
-use Rattle.one_name.proofs.CheckedLog.{logged}
+use Rattle.one_name.proofs.CheckedLog.{logged, case-index}
 use Rattle.one_name.proofs.PlaceInLog.{index, index-is}
 use borrow.Author.Needs.{needs}
 use Rattle.one_name.proofs.walk.Statement.{statement}
@@ -32,7 +32,8 @@ returns c =
     let x = rowAt (now (start .args .s)) (start .args .x) in
     let l = namesOf (now (start .args .log)) in
     let k = ap index (sym (after-place .place .given .1) ∙ after-place-from .place-from .ensures) ∙ index-is x l in
-    (k, after-case-at .case-at .ensures)
+    let case = after-case-at .case-at in
+    (k, case .ensures, case-index (now (start .args .log)) (start .args .author) x (start .pre .0) (case .result) (case .ensures))
 
 returns-2 : tie.Need-returns-2
 returns-2 c =
@@ -43,7 +44,8 @@ returns-2 c =
     let x = rowAt (now (start .args .s)) (start .args .x) in
     let l = namesOf (now (start .args .log)) in
     let k = ap index (sym (after-place2 .place2 .given .1) ∙ after-place-from .place-from .ensures) ∙ index-is x l in
-    (k, after-case-at .case-at .ensures)
+    let case = after-case-at .case-at in
+    (k, case .ensures, case-index (now (start .args .log)) (start .args .author) x (start .pre .0) (case .result) (case .ensures))
 
 pub walk-spec : {M : Type 1} → statement M
 walk-spec =

@@ -1,66 +1,62 @@
 -- `page_renames::check_back` meets its contract. Assumes nothing.
-use mathlib.Core.Path.{_≡_, refl, _∙_, sym, ap}
-use mathlib.Core.List.{List, [], _∷_, map}
-use mathlib.Core.Bool.{Bool, cond, _&&_}
-use Prim.Native.Nat.{_-_, _/_, _<_, _≤_}
+use mathlib.Core.Path.{_≡_, refl, _∙_, sym, ap, subst}
+use mathlib.Core.List.{[], _∷_}
+use mathlib.Core.Bool.{Bool, _&&_}
+use Prim.Native.Nat.{ℕ, _+_, _-_, _/_, _<_, _≤_}
 use native.Mathlib.Omega.{arith}
 use borrow.Author.Tests.{not-true, not-false}
 use denote.Ref.{now}
 use lib.ListN.{length, getD, drop}
-use Rattle.names.specs.declared.Author.{Author}
 use Rattle.names.specs.Ordering.{Row, rising}
-use Rattle.names.specs.Names.{rowOf, fits, Gives}
-use Rattle.name_values.proofs.JoinedRows.{row-of}
-use Rattle.name_values.proofs.GivenRows.{gives}
-use Rattle.numbers.specs.Bytes.{Bytes}
+use Rattle.names.specs.Names.{fits}
 use Rattle.numbers.specs.Lists.{every}
 use Rattle.slots.specs.Slots.{slotSize}
 use Rattle.answers.specs.declared.Refusal.the-variants.{TooDeep, NotRisingBack}
 use Rattle.answers.specs.Answers.{_else_, inOrder}
-use Rattle.pages.specs.Pages.{namesOf}
 use Rattle.answers.specs.Laws.{here}
+use Rattle.pages.specs.Pages.{namesOf}
+use Rattle.pages.proofs.SlotBySlot.{length-names}
 use Rattle.name_renames.specs.Renaming.{takeBack}
+use Rattle.one_name.specs.Backs.{shaped, Means}
+use Rattle.one_name.specs.Markers.{unmarked}
+use Rattle.renamed_slots.specs.Ready.{Ready}
 use Rattle.page_renames.specs.declared.Checked.the-variants.{Refused, Passed}
 use Rattle.page_renames.specs.Renames.{takeBackTests}
-use Rattle.page_renames.proofs.Books.{back-valid}
 use Rattle.page_renames.proofs.FirstRefusal.{asked, stops}
-use Rattle.page_renames.proofs.PageWalk.{result-at, results-end, rising-turn, rising-ends, rising-first}
+use Rattle.page_renames.proofs.BackPairs.{ready, unmarked-rise, of-results}
+use Rattle.page_renames.proofs.PageWalk.{name-lent, keeps-lent, results, result-at, results-end, rising-turn, rising-ends}
 use borrow.Author.Needs.{needs}
 use Rattle.page_renames.proofs.check_back.Statement.{statement}
 use Rattle.page_renames.proofs.check_back.Tie as tie
 
--- the page's names taken back
-abbrev results : Bytes → Bytes → Author → List Row
-results page log author = map (takeBack author (namesOf log)) (namesOf page)
-
 abbrev Inv-loop : tie.InvT-loop
-Inv-loop page log author n last₀ rises₀ i₀ last rises i =
+Inv-loop page log author n unmarkedLog last₀ lastUnmarked₀ rises₀ i₀ last lastUnmarked rises i =
     (n ≡ length page / slotSize)
     × (i ≤ n)
-    × (every fits (drop i (results page log author)) ≡ every fits (results page log author))
-    × (rises && rising (rowOf last ∷ drop i (results page log author)) ≡ rising (results page log author))
+    × (every fits (drop i (results page (takeBack author (namesOf log)))) ≡ every fits (results page (takeBack author (namesOf log))))
+    × (rises && rising (drop (i - 1) (results page (takeBack author (namesOf log)))) ≡ rising (results page (takeBack author (namesOf log))))
+    × (1 ≤ i → Ready (getD (namesOf page) (i - 1) []) (namesOf log) last × (shaped (getD (namesOf page) (i - 1) []) (namesOf log) last ≡ takeBack author (namesOf log) (getD (namesOf page) (i - 1) [])))
+    × (author .node ≤ 65535)
+    × (author .sequence ≤ 4294967295)
+    × (1 ≤ i → lastUnmarked ≡ every unmarked (namesOf log) && unmarked (getD (namesOf page) (i - 1) []))
 
 abbrev μ-loop : tie.MeasureT-loop
-μ-loop page log author n last₀ rises₀ i₀ last rises i = n - i
+μ-loop page log author n unmarkedLog last₀ lastUnmarked₀ rises₀ i₀ last lastUnmarked rises i = n - i
 
-empty-requires : tie.Need-empty-requires Inv-loop μ-loop
-empty-requires c κs = search needs
+log-unmarked-requires : tie.Need-log-unmarked-requires Inv-loop μ-loop
+log-unmarked-requires c κs = search needs
 
 loop-holds : tie.Need-loop-holds Inv-loop μ-loop
-loop-holds c =
-    let start : tie.Start Inv-loop μ-loop = search needs in
-    let a = start .args in
-    let s = now (a .page) in
-    let g = now (a .log) in
-    let f = takeBack (a .author) (namesOf g) in
-    let n : a .author .node ≤ 65535 = omega arith in
-    let q : a .author .sequence ≤ 4294967295 = omega arith in
-    let v = back-valid s g (a .author) n q (asked s g (a .author) (start .pre)) in
-    let none = ap (λ (r : Row). rising (r ∷ map f (namesOf s))) (row-of [] (c .empty .ensures)) in
-    (refl, omega arith, refl, none ∙ rising-first (map f (namesOf s)) v)
+loop-holds c = (refl, omega arith, refl, refl, λ h. absurd (omega (arith, h)), omega arith, omega arith, λ h. absurd (omega (arith, h)))
 
 check-rising-requires : tie.Need-check-rising-requires Inv-loop μ-loop
 check-rising-requires c κs = search needs
+
+mul-at : tie.Need-mul-at Inv-loop μ-loop
+mul-at c = omega arith
+
+add-end : tie.Need-add-end Inv-loop μ-loop
+add-end c = omega arith
 
 span-of-requires : tie.Need-span-of-requires Inv-loop μ-loop
 span-of-requires c κs = search needs
@@ -70,13 +66,77 @@ back-of-requires c κs =
     let start : tie.Start Inv-loop μ-loop = search needs in
     (asked (now (start .args .page)) (now (start .args .log)) (start .args .author) (start .pre) .logged, c .span-of .ensures .0)
 
-made-requires : tie.Need-made-requires Inv-loop μ-loop
-made-requires c κs =
+sub-back-fits : tie.Need-sub-back-fits Inv-loop μ-loop
+sub-back-fits c = omega arith
+
+part-back-fits-start : tie.Need-part-back-fits-start Inv-loop μ-loop
+part-back-fits-start c = omega arith
+
+part-back-fits-end : tie.Need-part-back-fits-end Inv-loop μ-loop
+part-back-fits-end c = omega arith
+
+back-fits-requires : tie.Need-back-fits-requires Inv-loop μ-loop
+back-fits-requires c κs =
+    let else1 : tie.Else1 Inv-loop μ-loop = search needs in
     let start : tie.Start Inv-loop μ-loop = search needs in
-    (asked (now (start .args .page)) (now (start .args .log)) (start .args .author) (start .pre) .logged, c .back-of .ensures .0)
+    let at-loop : tie.At-loop Inv-loop μ-loop = search needs in
+    let s = now (start .args .page) in
+    let g = now (start .args .log) in
+    let author = start .args .author in
+    let l = namesOf g in
+    let f = takeBack author l in
+    let i = at-loop .loop .i in
+    let after-back-of : tie.After-back-of Inv-loop μ-loop = search needs in
+    let after-span-of : tie.After-span-of Inv-loop μ-loop = search needs in
+    let h : i < length s / slotSize = omega (arith, else1 .if1 .left, at-loop .loop .inv .0) in
+    let b = after-back-of .back-of .result in
+    let m = subst (λ (a : Row). Means a l b (f a)) (after-span-of .span-of .ensures .1 ∙ sym (name-lent s i h)) (after-back-of .back-of .ensures) in
+    let v = asked s g author (start .pre) in
+    (keeps-lent s i h (v .layout), v .logged, m .0)
+
+is-unmarked-requires : tie.Need-is-unmarked-requires Inv-loop μ-loop
+is-unmarked-requires c κs =
+    let after-span-of : tie.After-span-of Inv-loop μ-loop = search needs in
+    after-span-of .span-of .ensures .0
+
+both-requires : tie.Need-both-requires Inv-loop μ-loop
+both-requires c κs = search needs
+
+both-requires-2 : tie.Need-both-requires-2 Inv-loop μ-loop
+both-requires-2 c κs = search needs
 
 still-rises-requires : tie.Need-still-rises-requires Inv-loop μ-loop
-still-rises-requires c κs = search needs
+still-rises-requires c κs =
+    let else2 : tie.Else2 Inv-loop μ-loop = search needs in
+    let else1 : tie.Else1 Inv-loop μ-loop = search needs in
+    let start : tie.Start Inv-loop μ-loop = search needs in
+    let at-loop : tie.At-loop Inv-loop μ-loop = search needs in
+    let s = now (start .args .page) in
+    let g = now (start .args .log) in
+    let author = start .args .author in
+    let l = namesOf g in
+    let f = takeBack author l in
+    let i = at-loop .loop .i in
+    let node = at-loop .loop .inv .5 in
+    let sequence = at-loop .loop .inv .6 in
+    let after-back-fits : tie.After-back-fits Inv-loop μ-loop = search needs in
+    let after-back-of : tie.After-back-of Inv-loop μ-loop = search needs in
+    let after-span-of : tie.After-span-of Inv-loop μ-loop = search needs in
+    let h : i < length s / slotSize = omega (arith, else1 .if1 .left, at-loop .loop .inv .0) in
+    let b = after-back-of .back-of .result in
+    let m = subst (λ (a : Row). Means a l b (f a)) (after-span-of .span-of .ensures .1) (after-back-of .back-of .ensures) in
+    let told = after-back-fits .back-fits .ensures ∙ ap (λ (a : Row). fits (shaped a l b)) (name-lent s i h) in
+    let fit = sym told ∙ not-false (after-back-fits .back-fits .result) (else2 .if2 .left) in
+    let after-both2 : tie.After-both2 Inv-loop μ-loop = search needs in
+    let after-both : tie.After-both Inv-loop μ-loop = search needs in
+    let after-is-unmarked : tie.After-is-unmarked Inv-loop μ-loop = search needs in
+    let after-log-unmarked : tie.After-log-unmarked Inv-loop μ-loop = search needs in
+    let plain = after-both .both .ensures ∙ (λ k. after-log-unmarked .log-unmarked .ensures k && (after-is-unmarked .is-unmarked .ensures ∙ ap unmarked (after-span-of .span-of .ensures .1)) k) in
+    let v = asked s g author (start .pre) in
+    let last = at-loop .loop .last in
+    let before = at-loop .loop .inv .4 in
+    let within : i < length (namesOf s) = omega (arith, length-names s (length s / slotSize)) in
+    ((v .layout, v .logged, within), ((λ p. before p .0, ready s g author node sequence v i h b m fit), unmarked-rise s g author node sequence v i h last b (λ p. before p .1) (m .1) (at-loop .loop .inv .7) plain (after-both2 .both2 .ensures)))
 
 add-i : tie.Need-add-i Inv-loop μ-loop
 add-i c = omega arith
@@ -86,54 +146,80 @@ loop-less c = omega arith
 
 loop-again : tie.Need-loop-again Inv-loop μ-loop
 loop-again c =
+    let after-still-rises : tie.After-still-rises Inv-loop μ-loop = search needs in
+    let else2 : tie.Else2 Inv-loop μ-loop = search needs in
+    let else1 : tie.Else1 Inv-loop μ-loop = search needs in
     let start : tie.Start Inv-loop μ-loop = search needs in
     let at-loop : tie.At-loop Inv-loop μ-loop = search needs in
-    let after-span-of : tie.After-span-of Inv-loop μ-loop = search needs in
-    let after-back-of : tie.After-back-of Inv-loop μ-loop = search needs in
-    let after-made : tie.After-made Inv-loop μ-loop = search needs in
-    let else2 : tie.Else2 Inv-loop μ-loop = search needs in
     let s = now (start .args .page) in
-    let l = namesOf (now (start .args .log)) in
-    let f = takeBack (start .args .author) l in
+    let g = now (start .args .log) in
+    let author = start .args .author in
+    let l = namesOf g in
+    let f = takeBack author l in
     let i = at-loop .loop .i in
-    let h : i < length s / slotSize = omega arith in
-    let y = f (getD (namesOf s) i []) in
-    let back = after-made .made in
-    let given : Gives (back .result) y = gives (back .result) (after-back-of .back-of .ensures .1 ∙ ap f (after-span-of .span-of .ensures .1)) (back .ensures) in
-    let w = sym (given .0) ∙ not-false (back .result .fits) (else2 .if2 .left) in
-    let m : rowOf (back .result .name) ≡ y = given .1 ∙ ap (λ (b : Bool). cond b y []) w in
-    let before = rowOf (at-loop .loop .last) in
-    let turn = rising-turn s i h f (at-loop .loop .rises) (c .still-rises .result) before (rowOf (back .result .name)) m (c .still-rises .ensures) in
-    (refl, omega arith, result-at s i h f fits (sym w) ∙ at-loop .loop .inv .2, turn ∙ at-loop .loop .inv .3)
+    let node = at-loop .loop .inv .5 in
+    let sequence = at-loop .loop .inv .6 in
+    let after-back-fits : tie.After-back-fits Inv-loop μ-loop = search needs in
+    let after-back-of : tie.After-back-of Inv-loop μ-loop = search needs in
+    let after-span-of : tie.After-span-of Inv-loop μ-loop = search needs in
+    let h : i < length s / slotSize = omega (arith, else1 .if1 .left, at-loop .loop .inv .0) in
+    let b = after-back-of .back-of .result in
+    let m = subst (λ (a : Row). Means a l b (f a)) (after-span-of .span-of .ensures .1) (after-back-of .back-of .ensures) in
+    let told = after-back-fits .back-fits .ensures ∙ ap (λ (a : Row). fits (shaped a l b)) (name-lent s i h) in
+    let fit = sym told ∙ not-false (after-back-fits .back-fits .result) (else2 .if2 .left) in
+    let v = asked s g author (start .pre) in
+    let before = at-loop .loop .inv .4 in
+    let went = at-loop .loop .rises in
+    let goes = after-still-rises .still-rises in
+    let both = goes .ensures ∙ ap (λ (t : Bool). went && t) (of-results i (λ p. before p .1) (m .1)) in
+    let turn = rising-turn s f i h went (goes .result) both in
+    let after-both : tie.After-both Inv-loop μ-loop = search needs in
+    let after-is-unmarked : tie.After-is-unmarked Inv-loop μ-loop = search needs in
+    let after-log-unmarked : tie.After-log-unmarked Inv-loop μ-loop = search needs in
+    let plain = after-both .both .ensures ∙ (λ k. after-log-unmarked .log-unmarked .ensures k && (after-is-unmarked .is-unmarked .ensures ∙ ap unmarked (after-span-of .span-of .ensures .1)) k) in
+    let same : i ≡ i + 1 - 1 = omega arith in
+    let here-plain = plain ∙ ap (λ (k : ℕ). every unmarked l && unmarked (getD (namesOf s) k [])) same in
+    let known = subst (λ (k : ℕ). Ready (getD (namesOf s) k []) l b × (shaped (getD (namesOf s) k []) l b ≡ f (getD (namesOf s) k []))) same (ready s g author node sequence v i h b m fit, m .1) in
+    (refl, omega arith, result-at s i h f fits (sym (ap fits (sym (m .1)) ∙ fit)) ∙ at-loop .loop .inv .2, turn ∙ at-loop .loop .inv .3, λ p. known, node, sequence, λ p. here-plain)
 
 returns : tie.Need-returns Inv-loop μ-loop
 returns c =
     let start : tie.Start Inv-loop μ-loop = search needs in
     let at-loop : tie.At-loop Inv-loop μ-loop = search needs in
     let s = now (start .args .page) in
-    let l = namesOf (now (start .args .log)) in
-    let f = takeBack (start .args .author) l in
+    let g = now (start .args .log) in
+    let author = start .args .author in
+    let l = namesOf g in
+    let f = takeBack author l in
     let i = at-loop .loop .i in
+    let then1 : tie.Then1 Inv-loop μ-loop = search needs in
+    let e : i ≡ length s / slotSize = omega (arith, then1 .if1 .taken, at-loop .loop .inv .0, at-loop .loop .inv .1) in
     let t = results-end s i f fits (omega arith) ∙ at-loop .loop .inv .2 in
-    let u = rising-ends s i (omega arith) f (at-loop .loop .rises) (rowOf (at-loop .loop .last)) ∙ at-loop .loop .inv .3 in
+    let u = rising-ends s f i e (at-loop .loop .rises) ∙ at-loop .loop .inv .3 in
     c .check-rising .ensures ∙ (λ k. inOrder (t k else TooDeep ∷ u k else NotRisingBack ∷ []) Refused Passed)
 
 returns-2 : tie.Need-returns-2 Inv-loop μ-loop
 returns-2 c =
+    let then2 : tie.Then2 Inv-loop μ-loop = search needs in
+    let else1 : tie.Else1 Inv-loop μ-loop = search needs in
     let start : tie.Start Inv-loop μ-loop = search needs in
     let at-loop : tie.At-loop Inv-loop μ-loop = search needs in
-    let after-span-of : tie.After-span-of Inv-loop μ-loop = search needs in
-    let after-back-of : tie.After-back-of Inv-loop μ-loop = search needs in
-    let after-made : tie.After-made Inv-loop μ-loop = search needs in
     let s = now (start .args .page) in
-    let l = namesOf (now (start .args .log)) in
-    let f = takeBack (start .args .author) l in
+    let g = now (start .args .log) in
+    let author = start .args .author in
+    let l = namesOf g in
+    let f = takeBack author l in
     let i = at-loop .loop .i in
-    let h : i < length s / slotSize = omega arith in
-    let back = after-made .made in
-    let given : Gives (back .result) (f (getD (namesOf s) i [])) = gives (back .result) (after-back-of .back-of .ensures .1 ∙ ap f (after-span-of .span-of .ensures .1)) (back .ensures) in
-    let t = result-at s i h f fits (sym (not-true (back .result .fits) (c .if2 .taken)) ∙ given .0) ∙ at-loop .loop .inv .2 in
-    stops (takeBackTests s (now (start .args .log)) (start .args .author)) (here (sym t) refl)
+    let after-back-fits : tie.After-back-fits Inv-loop μ-loop = search needs in
+    let after-back-of : tie.After-back-of Inv-loop μ-loop = search needs in
+    let after-span-of : tie.After-span-of Inv-loop μ-loop = search needs in
+    let h : i < length s / slotSize = omega (arith, else1 .if1 .left, at-loop .loop .inv .0) in
+    let b = after-back-of .back-of .result in
+    let m = subst (λ (a : Row). Means a l b (f a)) (after-span-of .span-of .ensures .1) (after-back-of .back-of .ensures) in
+    let told = after-back-fits .back-fits .ensures ∙ ap (λ (a : Row). fits (shaped a l b)) (name-lent s i h) in
+    let none = sym (not-true (after-back-fits .back-fits .result) (then2 .if2 .taken)) ∙ told ∙ ap fits (m .1) in
+    let t = result-at s i h f fits none ∙ at-loop .loop .inv .2 in
+    stops (takeBackTests s g author) (here (sym t) refl)
 
 pub check-back-spec : {M : Type 1} → statement M
 check-back-spec =
@@ -141,12 +227,20 @@ check-back-spec =
     (tie.spec
     Inv-loop
     μ-loop
-    empty-requires
+    log-unmarked-requires
     loop-holds
     check-rising-requires
+    mul-at
+    add-end
     span-of-requires
     back-of-requires
-    made-requires
+    sub-back-fits
+    part-back-fits-start
+    part-back-fits-end
+    back-fits-requires
+    is-unmarked-requires
+    both-requires
+    both-requires-2
     still-rises-requires
     add-i
     loop-less

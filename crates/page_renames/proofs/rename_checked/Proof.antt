@@ -51,7 +51,7 @@ write-renamed-requires c κs =
     let went-on : tie.After-enum-told = search needs in
     let v = asked s g (a .author) (start .pre) in
     let fits = all-fit s g (a .author) own f fit room (start .pre) (checked .check-rename .ensures) (went-on .enum-told .given .1) in
-    ((v .rising, v .logged, omega arith), fits)
+    ((v .layout, v .rising, v .logged, omega arith), fits)
 
 -- the call's own refusals
 returns-2 : tie.Need-returns-2

@@ -1,9 +1,16 @@
 -- `page_renames::still_rises` meets its contract. Assumes nothing.
 use mathlib.Core.Path.{sym, ap}
-use mathlib.Core.Bool.{Bool, _&&_}
-use borrow.Author.Tests.{not-true, not-false}
-use Rattle.names.specs.Ordering.{compareRows, isLess}
-use Rattle.names.specs.Names.{rowOf}
+use mathlib.Core.List.{[]}
+use mathlib.Core.Bool.{Bool, _&&_, _||_}
+use Prim.Native.Nat.{_-_, _≤_}
+use native.Mathlib.Omega.{arith}
+use borrow.Author.Tests.{not-true, not-false, lt-ltb, le-ltb}
+use denote.Ref.{now}
+use lib.Dec.{ltb}
+use lib.ListN.{getD}
+use Rattle.names.specs.Ordering.{isLess, compareRows}
+use Rattle.pages.specs.Pages.{namesOf}
+use Rattle.one_name.specs.Backs.{shaped}
 use borrow.Author.Needs.{needs}
 use Rattle.page_renames.proofs.still_rises.Statement.{statement}
 use Rattle.page_renames.proofs.still_rises.Tie as tie
@@ -12,22 +19,38 @@ returns : tie.Need-returns
 returns c =
     let start : tie.Start = search needs in
     let x = start .args in
-    let under = isLess (compareRows (rowOf (x .a)) (rowOf (x .b))) in
-    ap (λ (b : Bool). b && under) (sym (not-true (x .rises) (c .if1 .taken)))
-
-is-below-requires : tie.Need-is-below-requires
-is-below-requires c κs = search needs
+    let l = namesOf (now (x .log)) in
+    let s = namesOf (now (x .page)) in
+    let less = isLess (compareRows (shaped (getD s (x .i - 1) []) l (x .last)) (shaped (getD s (x .i) []) l (x .back))) in
+    ap (λ (b : Bool). b && (ltb (x .i) 1 || less)) (sym (not-true (x .rises) (c .if1 .taken)))
 
 returns-2 : tie.Need-returns-2
 returns-2 c =
-    let start : tie.Start = search needs in
     let else1 : tie.Else1 = search needs in
-    simp (not-false (start .args .rises) (else1 .if1 .left)) (c .is-below .ensures)
+    let start : tie.Start = search needs in
+    let x = start .args in
+    let l = namesOf (now (x .log)) in
+    let s = namesOf (now (x .page)) in
+    let less = isLess (compareRows (shaped (getD s (x .i - 1) []) l (x .last)) (shaped (getD s (x .i) []) l (x .back))) in
+    λ k. sym (not-false (x .rises) (else1 .if1 .left)) k && (sym (lt-ltb (x .i) 1 (c .if2 .taken)) k || less)
+
+pair-rises-requires : tie.Need-pair-rises-requires
+pair-rises-requires c κs =
+    let else2 : tie.Else2 = search needs in
+    let start : tie.Start = search needs in
+    let p = start .pre .0 in
+    let h : 1 ≤ start .args .i = omega (arith, else2 .if2 .left) in
+    ((p .0, p .1, h, p .2), ((start .pre .1 .0 .0 h, start .pre .1 .0 .1), start .pre .1 .1 h))
+
+returns-3 : tie.Need-returns-3
+returns-3 c =
+    let after-pair-rises : tie.After-pair-rises = search needs in
+    let else2 : tie.Else2 = search needs in
+    let else1 : tie.Else1 = search needs in
+    let start : tie.Start = search needs in
+    let x = start .args in
+    let h : 1 ≤ x .i = omega (arith, else2 .if2 .left) in
+    λ k. sym (not-false (x .rises) (else1 .if1 .left)) k && (sym (le-ltb (x .i) 1 h) k || after-pair-rises .pair-rises .ensures k)
 
 pub still-rises-spec : {M : Type 1} → statement M
-still-rises-spec =
-    tie.close
-    (tie.spec
-    returns
-    is-below-requires
-    returns-2)
+still-rises-spec = tie.close (tie.spec returns returns-2 pair-rises-requires returns-3)

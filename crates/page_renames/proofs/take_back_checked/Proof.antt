@@ -51,7 +51,7 @@ write-back-requires c κs =
     let went-on : tie.After-enum-told = search needs in
     let v = asked s g (a .author) (start .pre) in
     let fits = all-fit s g (a .author) own f fit room (start .pre) (checked .check-back .ensures) (went-on .enum-told .given .1) in
-    ((v .logged, omega arith), fits)
+    ((v .layout, v .logged, omega arith), fits)
 
 -- the call's own refusals
 returns-2 : tie.Need-returns-2

@@ -1,18 +1,19 @@
 -- `page_renames::write_back` meets its contract. Assumes nothing.
-use mathlib.Core.Path.{_≡_, refl, _∙_, sym, ap}
+use mathlib.Core.Path.{_≡_, refl, _∙_, sym, ap, subst}
 use Prim.Native.Nat.{_-_, _*_, _/_, _<_, _≤_}
 use native.Mathlib.Omega.{arith}
 use denote.Ref.{now}
 use lib.ListN.{length}
 use Rattle.names.specs.Ordering.{Row}
-use Rattle.name_values.proofs.GivenRows.{gives}
+use Rattle.names.specs.Names.{fits}
 use Rattle.numbers.specs.Bytes.{put}
 use Rattle.slots.specs.Slots.{slotSize, lineOf, slotBytes}
 use Rattle.pages.specs.Pages.{namesOf}
-use Rattle.pages.proofs.SlotBySlot.{lent, lent-length}
+use Rattle.pages.proofs.SlotBySlot.{lent}
+use Rattle.one_name.specs.Backs.{Means}
 use Rattle.name_renames.specs.Renaming.{takeBack}
-use Rattle.page_renames.proofs.PageWalk.{name-lent}
-use Rattle.page_renames.proofs.SlotBySlot.{standing, standing-first, standing-last, standing-on, same-room, name-made}
+use Rattle.page_renames.proofs.PageWalk.{name-lent, keeps-lent}
+use Rattle.page_renames.proofs.SlotBySlot.{standing, standing-first, standing-last, standing-on, same-room, fit}
 use borrow.Author.Needs.{needs}
 use Rattle.page_renames.proofs.write_back.Statement.{statement}
 use Rattle.page_renames.proofs.write_back.Tie as tie
@@ -42,30 +43,32 @@ span-of-requires c κs = search needs
 back-of-requires : tie.Need-back-of-requires Inv-loop μ-loop
 back-of-requires c κs =
     let start : tie.Start Inv-loop μ-loop = search needs in
-    (start .pre .0 .0, c .span-of .ensures .0)
+    (start .pre .0 .1, c .span-of .ensures .0)
 
-made-requires : tie.Need-made-requires Inv-loop μ-loop
-made-requires c κs =
-    let start : tie.Start Inv-loop μ-loop = search needs in
-    (start .pre .0 .0, c .back-of .ensures .0)
+sub-write-back : tie.Need-sub-write-back Inv-loop μ-loop
+sub-write-back c = omega arith
 
-sub-carry : tie.Need-sub-carry Inv-loop μ-loop
-sub-carry c = omega arith
+part-write-back-start : tie.Need-part-write-back-start Inv-loop μ-loop
+part-write-back-start c = omega arith
 
-part-carry-start : tie.Need-part-carry-start Inv-loop μ-loop
-part-carry-start c = omega arith
+part-write-back-end : tie.Need-part-write-back-end Inv-loop μ-loop
+part-write-back-end c = omega arith
 
-part-carry-end : tie.Need-part-carry-end Inv-loop μ-loop
-part-carry-end c = omega arith
-
-carry-requires : tie.Need-carry-requires Inv-loop μ-loop
-carry-requires c κs =
+write-back-requires : tie.Need-write-back-requires Inv-loop μ-loop
+write-back-requires c κs =
     let start : tie.Start Inv-loop μ-loop = search needs in
     let at-loop : tie.At-loop Inv-loop μ-loop = search needs in
+    let after-back-of : tie.After-back-of Inv-loop μ-loop = search needs in
+    let after-span-of : tie.After-span-of Inv-loop μ-loop = search needs in
     let s = now (start .args .page) in
+    let l = namesOf (now (start .args .log)) in
+    let f = takeBack (start .args .author) l in
     let i = at-loop .loop .i in
-    let h : i < length s / slotSize = omega arith in
-    (lent-length s (length s / slotSize) i (slotSize * i) refl h refl, omega (arith, at-loop .loop .inv .2))
+    let in-loop : tie.In-loop Inv-loop μ-loop = search needs in
+    let h : i < length s / slotSize = omega (arith, in-loop .loop-test .taken, at-loop .loop .inv .0) in
+    let b = after-back-of .back-of .result in
+    let m = subst (λ (a : Row). Means a l b (f a)) (after-span-of .span-of .ensures .1 ∙ sym (name-lent s i h)) (after-back-of .back-of .ensures) in
+    (omega (arith, at-loop .loop .inv .2), keeps-lent s i h (start .pre .0 .0), start .pre .0 .1, m .0, ap fits (m .1) ∙ fit f s i h (start .pre .1))
 
 add-i : tie.Need-add-i Inv-loop μ-loop
 add-i c = omega arith
@@ -77,10 +80,9 @@ loop-again : tie.Need-loop-again Inv-loop μ-loop
 loop-again c =
     let start : tie.Start Inv-loop μ-loop = search needs in
     let at-loop : tie.At-loop Inv-loop μ-loop = search needs in
-    let after-span-of : tie.After-span-of Inv-loop μ-loop = search needs in
+    let after-write-back : tie.After-write-back Inv-loop μ-loop = search needs in
     let after-back-of : tie.After-back-of Inv-loop μ-loop = search needs in
-    let after-made : tie.After-made Inv-loop μ-loop = search needs in
-    let after-carry : tie.After-carry Inv-loop μ-loop = search needs in
+    let after-span-of : tie.After-span-of Inv-loop μ-loop = search needs in
     let s = now (start .args .page) in
     let l = namesOf (now (start .args .log)) in
     let f = takeBack (start .args .author) l in
@@ -89,11 +91,10 @@ loop-again c =
     let h : i < length s / slotSize = omega (arith, in-loop .loop-test .taken, at-loop .loop .inv .0) in
     let o = at-loop .loop .out in
     let d = lent s (slotSize * i) in
-    let name = after-span-of .span-of .ensures .1 in
-    let back = gives (after-made .made .result) (after-back-of .back-of .ensures .1) (after-made .made .ensures) in
-    let next = after-carry .carry .last .1 .1 .0 in
-    let m = name-made f s i h (start .pre .1) (after-made .made .result) _ (name ∙ sym (name-lent s i h)) back in
-    let e = after-carry .carry .ensures ∙ ap (λ (a : Row). put o (slotSize * i) (slotBytes (record { line = lineOf d; name = a }))) m in
+    let b = after-back-of .back-of .result in
+    let m = subst (λ (a : Row). Means a l b (f a)) (after-span-of .span-of .ensures .1 ∙ sym (name-lent s i h)) (after-back-of .back-of .ensures) in
+    let next = after-write-back .write-back .last .0 in
+    let e = after-write-back .write-back .ensures ∙ ap (λ (a : Row). put o (slotSize * i) (slotBytes (record { line = lineOf d; name = a }))) (m .1) in
     let r : length s ≤ length o = omega (arith, at-loop .loop .inv .2) in
     let room = same-room f s i h (start .pre .1) o next r e ∙ at-loop .loop .inv .2 in
     let stands = standing-on f s i h (start .pre .1) o next r e ∙ at-loop .loop .inv .3 in
@@ -124,11 +125,10 @@ write-back-spec =
     add-end
     span-of-requires
     back-of-requires
-    made-requires
-    sub-carry
-    part-carry-start
-    part-carry-end
-    carry-requires
+    sub-write-back
+    part-write-back-start
+    part-write-back-end
+    write-back-requires
     add-i
     loop-less
     loop-again

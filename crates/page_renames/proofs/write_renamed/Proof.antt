@@ -7,13 +7,15 @@ use denote.Ref.{now}
 use lib.ListN.{length, getD}
 use Rattle.names.specs.Ordering.{Row}
 use Rattle.numbers.specs.Bytes.{put}
-use Rattle.slots.specs.Slots.{slotSize, lineOf, slotBytes}
+use Rattle.names.specs.Names.{fits}
+use Rattle.slots.specs.Slots.{slotSize, lineOf, nameOf, slotBytes}
 use Rattle.pages.specs.Pages.{namesOf}
 use Rattle.pages.specs.Places.{below}
-use Rattle.pages.proofs.SlotBySlot.{lent, lent-length}
+use Rattle.pages.proofs.SlotBySlot.{lent}
 use Rattle.name_renames.specs.Renaming.{rename}
-use Rattle.page_renames.proofs.PageWalk.{name-lent, walked}
-use Rattle.page_renames.proofs.SlotBySlot.{standing, standing-first, standing-last, standing-on, same-room, name-made}
+use Rattle.one_name.proofs.RenamedByChange.{renamed}
+use Rattle.page_renames.proofs.PageWalk.{name-lent, keeps-lent, walked}
+use Rattle.page_renames.proofs.SlotBySlot.{standing, standing-first, standing-last, standing-on, same-room, fit}
 use borrow.Author.Needs.{needs}
 use Rattle.page_renames.proofs.write_renamed.Statement.{statement}
 use Rattle.page_renames.proofs.write_renamed.Tie as tie
@@ -47,31 +49,40 @@ walk-requires c κs =
     let at-loop : tie.At-loop Inv-loop μ-loop = search needs in
     let l = namesOf (now (start .args .log)) in
     let x = c .span-of .ensures in
-    (start .pre .0 .1, x .0, subst (λ (a : Row). at-loop .loop .j ≤ below a l) (sym (x .1)) (at-loop .loop .inv .4 (omega arith)))
+    (start .pre .0 .2, x .0, subst (λ (a : Row). at-loop .loop .j ≤ below a l) (sym (x .1)) (at-loop .loop .inv .4 (omega arith)))
 
-renamed-by-requires : tie.Need-renamed-by-requires Inv-loop μ-loop
-renamed-by-requires c κs =
-    let after-span-of : tie.After-span-of Inv-loop μ-loop = search needs in
+change-of-requires : tie.Need-change-of-requires Inv-loop μ-loop
+change-of-requires c κs =
+    let after-walk : tie.After-walk Inv-loop μ-loop = search needs in
     let start : tie.Start Inv-loop μ-loop = search needs in
-    (start .pre .0 .1, after-span-of .span-of .ensures .0, c .walk .ensures .1)
+    (start .pre .0 .2, after-walk .walk .ensures .2)
 
-sub-carry : tie.Need-sub-carry Inv-loop μ-loop
-sub-carry c = omega arith
+sub-write-changed : tie.Need-sub-write-changed Inv-loop μ-loop
+sub-write-changed c = omega arith
 
-part-carry-start : tie.Need-part-carry-start Inv-loop μ-loop
-part-carry-start c = omega arith
+part-write-changed-start : tie.Need-part-write-changed-start Inv-loop μ-loop
+part-write-changed-start c = omega arith
 
-part-carry-end : tie.Need-part-carry-end Inv-loop μ-loop
-part-carry-end c = omega arith
+part-write-changed-end : tie.Need-part-write-changed-end Inv-loop μ-loop
+part-write-changed-end c = omega arith
 
-carry-requires : tie.Need-carry-requires Inv-loop μ-loop
-carry-requires c κs =
+write-changed-requires : tie.Need-write-changed-requires Inv-loop μ-loop
+write-changed-requires c κs =
     let start : tie.Start Inv-loop μ-loop = search needs in
     let at-loop : tie.At-loop Inv-loop μ-loop = search needs in
+    let after-change-of : tie.After-change-of Inv-loop μ-loop = search needs in
+    let after-walk : tie.After-walk Inv-loop μ-loop = search needs in
+    let after-span-of : tie.After-span-of Inv-loop μ-loop = search needs in
     let s = now (start .args .page) in
+    let l = namesOf (now (start .args .log)) in
+    let author = start .args .author in
     let i = at-loop .loop .i in
-    let h : i < length s / slotSize = omega arith in
-    (lent-length s (length s / slotSize) i (slotSize * i) refl h refl, omega (arith, at-loop .loop .inv .2))
+    let in-loop : tie.In-loop Inv-loop μ-loop = search needs in
+    let h : i < length s / slotSize = omega (arith, in-loop .loop-test .taken, at-loop .loop .inv .0) in
+    let x = nameOf (lent s (slotSize * i)) in
+    let same = name-lent s i h ∙ sym (after-span-of .span-of .ensures .1) in
+    let is = renamed author l x same (after-walk .walk .ensures .1) (after-change-of .change-of .ensures) in
+    (omega (arith, at-loop .loop .inv .2), keeps-lent s i h (start .pre .0 .0), ap fits is ∙ fit (rename author l) s i h (start .pre .1))
 
 add-i : tie.Need-add-i Inv-loop μ-loop
 add-i c = omega arith
@@ -83,29 +94,29 @@ loop-again : tie.Need-loop-again Inv-loop μ-loop
 loop-again c =
     let start : tie.Start Inv-loop μ-loop = search needs in
     let at-loop : tie.At-loop Inv-loop μ-loop = search needs in
-    let after-span-of : tie.After-span-of Inv-loop μ-loop = search needs in
+    let after-write-changed : tie.After-write-changed Inv-loop μ-loop = search needs in
+    let after-change-of : tie.After-change-of Inv-loop μ-loop = search needs in
     let after-walk : tie.After-walk Inv-loop μ-loop = search needs in
-    let after-renamed-by : tie.After-renamed-by Inv-loop μ-loop = search needs in
-    let after-carry : tie.After-carry Inv-loop μ-loop = search needs in
+    let after-span-of : tie.After-span-of Inv-loop μ-loop = search needs in
     let s = now (start .args .page) in
     let l = namesOf (now (start .args .log)) in
-    let f = rename (start .args .author) l in
+    let author = start .args .author in
+    let f = rename author l in
     let i = at-loop .loop .i in
     let in-loop : tie.In-loop Inv-loop μ-loop = search needs in
     let h : i < length s / slotSize = omega (arith, in-loop .loop-test .taken, at-loop .loop .inv .0) in
     let o = at-loop .loop .out in
     let d = lent s (slotSize * i) in
-    let name = after-span-of .span-of .ensures .1 in
     let w = after-walk .walk in
-    let next = after-carry .carry .last .1 .1 .0 in
-    let m = name-made f s i h (start .pre .1) (after-renamed-by .renamed-by .result) _ (name ∙ sym (name-lent s i h)) (after-renamed-by .renamed-by .ensures) in
-    let e = after-carry .carry .ensures ∙ ap (λ (a : Row). put o (slotSize * i) (slotBytes (record { line = lineOf d; name = a }))) m in
+    let name = after-span-of .span-of .ensures .1 in
+    let is = renamed author l (nameOf d) (name-lent s i h ∙ sym name) (w .ensures .1) (after-change-of .change-of .ensures) in
+    let next = after-write-changed .write-changed .last .0 in
+    let e = after-write-changed .write-changed .ensures ∙ ap (λ (a : Row). put o (slotSize * i) (slotBytes (record { line = lineOf d; name = a }))) is in
     let r : length s ≤ length o = omega (arith, at-loop .loop .inv .2) in
     let room = same-room f s i h (start .pre .1) o next r e ∙ at-loop .loop .inv .2 in
     let stands = standing-on f s i h (start .pre .1) o next r e ∙ at-loop .loop .inv .3 in
-    let p = w .ensures .0 ∙ ap (λ (a : Row). below a l) name in
-    let b : w .result .below ≤ below (getD (namesOf s) i []) l = omega arith in
-    (refl, omega arith, room, stands, walked s i h l (w .result .below) (start .pre .0 .0) b)
+    let b : w .result .below ≤ below (getD (namesOf s) i []) l = omega (arith, w .ensures .0, ap (λ (a : Row). below a l) name) in
+    (refl, omega arith, room, stands, walked s i h l (w .result .below) (start .pre .0 .1) b)
 
 same-length : tie.Need-same-length Inv-loop μ-loop
 same-length c = search needs
@@ -132,11 +143,11 @@ write-renamed-spec =
     add-end
     span-of-requires
     walk-requires
-    renamed-by-requires
-    sub-carry
-    part-carry-start
-    part-carry-end
-    carry-requires
+    change-of-requires
+    sub-write-changed
+    part-write-changed-start
+    part-write-changed-end
+    write-changed-requires
     add-i
     loop-less
     loop-again

@@ -1,77 +1,51 @@
 -- `slots::zero_after` meets its contract. Assumes nothing.
-use mathlib.Core.Path.{_≡_, _∙_, sym, ap}
-use mathlib.Core.Bool.{true}
-use Prim.Native.Nat.{ℕ, _+_, _*_, _≤_}
+use mathlib.Core.Path.{sym}
+use Prim.Native.Nat.{_+_, _*_}
 use native.Mathlib.Omega.{arith}
 use denote.Ref.{now}
-use lib.ListN.{drop}
-use Rattle.numbers.specs.Bytes.{allZero, isZero}
+use Rattle.numbers.specs.Bytes.{isZero}
+use Rattle.numbers.proofs.Every.{every-end}
 use Rattle.slots.specs.Tuples.{tupleSize}
 use Rattle.slots.specs.Slots.{headSize}
-use Rattle.numbers.proofs.Every.{every-end}
-use Rattle.slots.proofs.ZeroTuples.{zeros-more, zeros-fail}
-use Rattle.slots.proofs.zero_after.Statement.{statement}
 use borrow.Author.Needs.{needs}
+use Rattle.slots.proofs.zero_after.Statement.{statement}
 use Rattle.slots.proofs.zero_after.Tie as tie
 
-abbrev Inv-loop : tie.InvT-loop
-Inv-loop s d room k₀ k = (d ≤ k) × (k ≤ room) × (allZero (drop (headSize + tupleSize * k) s) ≡ true)
+sub-if1 : tie.Need-sub-if1
+sub-if1 c = search needs
 
-abbrev μ-loop : tie.MeasureT-loop
-μ-loop s d room k₀ k = k
-
-loop-holds : tie.Need-loop-holds Inv-loop μ-loop
-loop-holds c =
-    let start : tie.Start Inv-loop μ-loop = search needs in
+zero-up-to-requires : tie.Need-zero-up-to-requires
+zero-up-to-requires c κs =
+    let start : tie.Start = search needs in
     (omega arith, omega arith, sym (every-end isZero (now (start .args .s)) (headSize + tupleSize * start .args .room) (omega arith)))
 
-sub-k : tie.Need-sub-k Inv-loop μ-loop
-sub-k c = omega arith
+returns : tie.Need-returns
+returns c = search needs
 
-mul-zero-at : tie.Need-mul-zero-at Inv-loop μ-loop
-mul-zero-at c = omega arith
+sub-if2 : tie.Need-sub-if2
+sub-if2 c = search needs
 
-add-zero-at : tie.Need-add-zero-at Inv-loop μ-loop
-add-zero-at c = omega arith
+zero-ends-requires : tie.Need-zero-ends-requires
+zero-ends-requires c κs = search needs
 
-zero-at-requires : tie.Need-zero-at-requires Inv-loop μ-loop
-zero-at-requires c κs = omega arith
+returns-2 : tie.Need-returns-2
+returns-2 c = search needs
 
-loop-less : tie.Need-loop-less Inv-loop μ-loop
-loop-less c = omega arith
+zero-ends-requires-2 : tie.Need-zero-ends-requires-2
+zero-ends-requires-2 c κs = search needs
 
-loop-again : tie.Need-loop-again Inv-loop μ-loop
-loop-again c =
-    let after-zero-at : tie.After-zero-at Inv-loop μ-loop = search needs in
-    let at-loop : tie.At-loop Inv-loop μ-loop = search needs in
-    let start : tie.Start Inv-loop μ-loop = search needs in
-    (omega arith, omega arith, zeros-more (now (start .args .s)) (at-loop .loop .k) (omega arith) (sym (c .if2 .taken) ∙ after-zero-at .zero-at .ensures) (at-loop .loop .inv .2))
-
-returns : tie.Need-returns Inv-loop μ-loop
-returns c =
-    let at-loop : tie.At-loop Inv-loop μ-loop = search needs in
-    let start : tie.Start Inv-loop μ-loop = search needs in
-    let e : at-loop .loop .k ≡ start .args .d = omega arith in sym (at-loop .loop .inv .2) ∙ ap (λ (k : ℕ). allZero (drop (headSize + tupleSize * k) (now (start .args .s)))) e
-
-returns-2 : tie.Need-returns-2 Inv-loop μ-loop
-returns-2 c =
-    let after-zero-at : tie.After-zero-at Inv-loop μ-loop = search needs in
-    let at-loop : tie.At-loop Inv-loop μ-loop = search needs in
-    let start : tie.Start Inv-loop μ-loop = search needs in
-    zeros-fail (now (start .args .s)) (at-loop .loop .k) (omega arith) (start .args .d) (omega arith) (sym (c .if2 .left) ∙ after-zero-at .zero-at .ensures)
+returns-3 : tie.Need-returns-3
+returns-3 c = search needs
 
 pub zero-after-spec : {M : Type 1} → statement M
 zero-after-spec =
     tie.close
     (tie.spec
-    Inv-loop
-    μ-loop
-    loop-holds
-    sub-k
-    mul-zero-at
-    add-zero-at
-    zero-at-requires
-    loop-less
-    loop-again
+    sub-if1
+    zero-up-to-requires
     returns
-    returns-2)
+    sub-if2
+    zero-ends-requires
+    returns-2
+    zero-ends-requires-2
+    returns-3)

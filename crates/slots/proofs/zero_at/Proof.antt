@@ -1,12 +1,8 @@
 -- `slots::zero_at` meets its contract. Assumes nothing.
 use mathlib.Core.Path.{_∙_, sym}
-use mathlib.Core.Bool.{_&&_}
-use Prim.Native.Nat.{_+_}
 use native.Mathlib.Omega.{arith}
 use denote.Ref.{now}
-use lib.Dec.{eqb}
-use borrow.Author.Tests.{eq-eqb, ne-eqb}
-use Rattle.numbers.specs.Bytes.{at32, at64}
+use borrow.Author.Tests.{ne-eqb}
 use Rattle.slots.proofs.ZeroTuples.{zero96}
 use borrow.Author.Needs.{needs}
 use Rattle.slots.proofs.zero_at.Statement.{statement}
@@ -23,14 +19,16 @@ read-u32-requires c κs = search needs
 
 returns : tie.Need-returns
 returns c =
+    let after-read-u64 : tie.After-read-u64 = search needs in
     let start : tie.Start = search needs in
-    sym (zero96 (now (start .args .s)) (start .args .p) (omega arith) ∙ (λ i. eq-eqb (at64 (now (start .args .s)) (start .args .p)) 0 (omega arith) i && eqb (sym (c .read-u32 .ensures) i) 0))
+    sym (zero96 (now (start .args .s)) (start .args .p) (omega arith) ∙ simp (sym (after-read-u64 .read-u64 .ensures), ne-eqb _ _ (c .if1 .taken)))
 
 returns-2 : tie.Need-returns-2
 returns-2 c =
+    let after-read-u32 : tie.After-read-u32 = search needs in
     let after-read-u64 : tie.After-read-u64 = search needs in
     let start : tie.Start = search needs in
-    sym (zero96 (now (start .args .s)) (start .args .p) (omega arith) ∙ (λ i. ne-eqb (at64 (now (start .args .s)) (start .args .p)) 0 (λ e. c .if1 .left (after-read-u64 .read-u64 .ensures ∙ e)) i && eqb (at32 (now (start .args .s)) (start .args .p + 8)) 0))
+    sym (zero96 (now (start .args .s)) (start .args .p) (omega arith) ∙ simp (sym (after-read-u64 .read-u64 .ensures), sym (after-read-u32 .read-u32 .ensures), c .if1 .left))
 
 pub zero-at-spec : {M : Type 1} → statement M
 zero-at-spec =

@@ -1,0 +1,3 @@
+pub mod CopiedTuples
+pub mod ReadTuples
+pub mod Settled
