@@ -29,7 +29,7 @@ module _ (p : ℕ) (author : Author) where
   below-inner (keptBelow f) a = a
   below-inner (cutBelow e k) (cons i a) = a
 
-  below-mono : {c d v w : Row} → StripBelow p author c v → StripBelow p author d w → c <ⁿ d → d <ⁿ N p author 0 → v <ⁿ w
+  pub below-mono : {c d v w : Row} → StripBelow p author c v → StripBelow p author d w → c <ⁿ d → d <ⁿ N p author 0 → v <ⁿ w
   unfolding StaysBelow
   below-mono (keptBelow f) (keptBelow g) l b = l
   below-mono (keptBelow f) (cutBelow e k) l b = <≤-trans (<ⁿ-trans l b) k
@@ -43,7 +43,7 @@ module _ (p : ℕ) (author : Author) where
   above-inner (keptAbove f) a = a
   above-inner (cutAbove e k) (cons i a) = a
 
-  above-mono : {k : ℕ} {c d v w : Row} → StripAbove p author k c v → StripAbove p author k d w → N p author k <ⁿ c → c <ⁿ d → v <ⁿ w
+  pub above-mono : {k : ℕ} {c d v w : Row} → StripAbove p author k c v → StripAbove p author k d w → N p author k <ⁿ c → c <ⁿ d → v <ⁿ w
   unfolding StaysAbove
   above-mono (keptAbove f) (keptAbove g) b l = l
   above-mono (cutAbove e j) (keptAbove g) b l = <ⁿ-trans j (<ⁿ-trans b l)

@@ -22,6 +22,7 @@ use Rattle.name_renames.proofs.Forward.{rename-mono}
 use Rattle.name_renames.proofs.Gaps.{MarkerFree}
 use Rattle.name_renames.proofs.GivenBack.{back-rename}
 use Rattle.name_renames.proofs.Backward.{takeBack-mono, below-first, above-logged, below-logged}
+use Rattle.name_renames.proofs.Alone.{alone-mono, alone-is}
 use Rattle.name_renames.proofs.Validity.{rename-valid, takeBack-valid, valid-nonempty}
 
 -- ── from the tests ──
@@ -112,6 +113,8 @@ taking-back author [] =
       valid = back-names author [];
       order-kept = λ c d g. nothing g;
       placed = λ c g. nothing g;
+      alone-kept = λ c d g. nothing g;
+      alone-is = λ c g. nothing g;
     }
 taking-back author (r ∷ rest) =
     record {
@@ -119,6 +122,8 @@ taking-back author (r ∷ rest) =
       valid = back-names author (r ∷ rest);
       order-kept = λ c d g. mono author r rest g c d;
       placed = λ c g. placed author r rest g c;
+      alone-kept = λ c d g a b h. alone-mono author (r ∷ rest) (g .rises) c d (g .some) a b h;
+      alone-is = λ c g a. alone-is author (r ∷ rest) c (g .some) a;
     }
 
 pub laws : Laws

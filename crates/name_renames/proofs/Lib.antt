@@ -12,5 +12,7 @@ pub mod Validity
 pub mod CaseByIndex
 pub mod ByTest
 pub mod BackByIndex
+pub mod Alone
 pub mod Starred
 pub mod Laws
+pub mod BackDepth

@@ -6,6 +6,7 @@ use native.Mathlib.Omega.{arith}
 use lib.ListN.{length, getD, drop}
 use lib.Seq.{drop-nil}
 use Rattle.names.specs.Ordering.{Row, _<ⁿ_, Rising, none, one, more}
+use Rattle.names.proofs.Laws.{head-below, tail-rising}
 
 pub data All {A : Type 0} (P : A → Type 0) : List A → Type 0 where
   nil : All P []
@@ -43,3 +44,9 @@ pub rising-next : {l : List Row} (k : ℕ) → Rising l → suc k < length l →
 rising-next k one i = absurd (omega arith)
 rising-next zero (more h o) i = h
 rising-next (suc k) (more h o) i = rising-next k o (omega arith)
+
+pub rising-below : {l : List Row} (i j : ℕ) → Rising l → i < j → j < length l → at l i <ⁿ at l j
+rising-below i zero o h k = absurd (omega arith)
+rising-below {l = []} i (suc j) o h k = absurd (omega arith)
+rising-below {l = a ∷ l} zero (suc j) o h k = head-below j o (omega arith)
+rising-below {l = a ∷ l} (suc i) (suc j) o h k = rising-below i j (tail-rising o) (omega arith) (omega arith)

@@ -13,6 +13,7 @@ use Rattle.names.specs.Ordering.{Row, compareRows, Rising, rising}
 use Rattle.names.specs.Names.{m, within, ordinary, isName}
 use Rattle.name_renames.specs.Renaming.{rename, takeBack, fresh}
 use Rattle.name_renames.specs.Rules.{_below_, _above_, r, N}
+use Rattle.name_renames.specs.Alone.{alone, Stays}
 use Rattle.name_renames.specs.Starred.{one, r0, L, author as author11}
 
 -- ── the words ──
@@ -73,6 +74,10 @@ module _ (author : Author) (log : List Row) where
     pub order-kept : (c d : Row) → Log log → arePlain (c ∷ d ∷ log) ≡ true → c below d → takeBack author log c below takeBack author log d
     -- Without markers in the log a name stays between the same neighbours.
     pub placed : (c : Row) → Log log → arePlain log ≡ true → Placed c
+    -- Two names that are taken back alone keep their order strictly, markers or not,
+    pub alone-kept : (c d : Row) → Log log → alone author log c ≡ true → alone author log d ≡ true → c below d → takeBack author log c below takeBack author log d
+    -- and such a name goes to one of the log, or to its own tuples.
+    pub alone-is : (c : Row) → Log log → alone author log c ≡ true → Stays log c (takeBack author log c)
 
   -- c is below d, and what they are taken back to is the other way round: 01's answer 7. All names are valid.
   pub record Reversed (c d : Row) : Type 0 where

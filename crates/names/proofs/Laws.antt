@@ -17,7 +17,7 @@ use Rattle.names.specs.declared.Tuple.{Tuple}
 use Rattle.names.specs.declared.Order.{Order}
 use Rattle.names.specs.declared.Order.the-variants.{Less, Same, More}
 use Rattle.names.specs.Ordering.{Row, compareℕ, compareℤ, then, compareTuples, compareRows, isLess, rising, _<ᶻ_, up, across, down, _<ᵗ_, position, node, sequence, offset, _<ⁿ_, ends, differ, same, _≤ⁿ_, less, equal, Rising, none, one, more}
-use Rattle.names.specs.Names.{lowered}
+use Rattle.names.specs.Names.{lowered, oneBelow}
 
 -- ── "this decides, else that" ──
 
@@ -284,6 +284,13 @@ pred-next (down {a} {b} h) = elim (ℕ-cases a (suc b)) [ inl k ↦ absurd (omeg
 
 pub lowered-below : (t : Tuple) → lowered t <ᵗ t
 lowered-below t = offset refl refl refl (pred-below (t .offset))
+
+-- one below a name has as many tuples
+pub below-length : (a : Row) → length (oneBelow a) ≡ length a
+unfolding oneBelow
+below-length [] = refl
+below-length (t ∷ []) = refl
+below-length (t ∷ u ∷ a) = ap suc (below-length (u ∷ a))
 
 -- nothing lies between a tuple and the tuple one offset lower
 pub lowered-next : {s t : Tuple} → s <ᵗ t → (s ≡ lowered t) ⊎ (s <ᵗ lowered t)

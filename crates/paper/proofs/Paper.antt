@@ -18,7 +18,7 @@ use Rattle.names.specs.declared.Tuple.{Tuple}
 use Rattle.names.specs.Ordering.{Row, compareTuples, compareRows, rising, _<ᶻ_, up, across, _<ᵗ_, position, node, sequence, offset, _<ⁿ_, ends, differ, same, _≤ⁿ_, less, equal, Rising, more}
 use Rattle.names.specs.Names.{m, M, oneBelow, ordinaryFrom, endsWell, isName}
 use Rattle.numbers.proofs.Bools.{yes-no}
-use Rattle.names.proofs.Laws.{++-prefix, ++-left, head-below, <ᵗ-irrefl, <ⁿ-irrefl, ℕ-cases, tuple-same, row-less, row-more, row-same, <ⁿ-trans, <≤-trans, ≤<-trans}
+use Rattle.names.proofs.Laws.{++-prefix, ++-left, head-below, <ᵗ-irrefl, <ⁿ-irrefl, ℕ-cases, tuple-same, row-less, row-more, row-same, <ⁿ-trans, <≤-trans, ≤<-trans, below-length}
 use Rattle.name_renames.specs.declared.Case.{Case}
 use Rattle.name_renames.specs.declared.Case.the-variants.{KeepBelow, PutBelow, Logged, Between, PutAbove, KeepAbove}
 use Rattle.name_renames.specs.Renaming.{ifBelow, lead, N, tail, caseAbove, caseOf, become, rename, firstPosition, fresh, takeBack, under, over, stripBelow, stripAbove, backBelow, backBetween, backAbove, backFrom, backOf}
@@ -171,12 +171,6 @@ unfolding createIdFromBase getLastOffset
 base-same [] = refl
 base-same (t ∷ []) = refl
 base-same (t ∷ u ∷ x) = ap (λ (y : Row). t ∷ y) (base-same (u ∷ x))
-
-lowered-length : (x : Row) → length (oneBelow x) ≡ length x
-unfolding oneBelow
-lowered-length [] = refl
-lowered-length (t ∷ []) = refl
-lowered-length (t ∷ u ∷ x) = ap suc (lowered-length (u ∷ x))
 
 -- c begins with s and goes on, or not
 data Beginning (s : Tuple) (c : Row) : Type 0 where
@@ -472,7 +466,7 @@ module _ (author : Author) (r : Row) (rest : List Row) where
         l = differ (offset refl refl refl across)
 
         high : length (oneBelow r ++ (M ∷ c)) ≡ length r + suc (suc (length t))
-        high = omega (arith, length-append (oneBelow r) (M ∷ c), lowered-length r)
+        high = omega (arith, length-append (oneBelow r) (M ∷ c), below-length r)
 
         go : Half t r → Half c r → ¬ (ifBelow t r t (r ++ (M ∷ t)) ≡ under r c)
         go (isUnder u) (isUnder v) = rw (row-less u, under-in r v) (λ e. omega (arith, ap length e))
