@@ -101,7 +101,7 @@ static inline uint32_t kadalumbir_count_of(uint64_t result)
 
 /* ---- checks: the count is that of the slots or entries that stand there; nothing is written */
 
-/* Refuses 1, 2. Stack: 120 bytes. */
+/* Refuses 1, 2. Stack: 130 bytes. */
 uint64_t kadalumbir_check_page(const uint8_t *page, size_t page_len);
 
 /* Refuses 3. Stack: 140 bytes. */
@@ -113,19 +113,19 @@ uint64_t kadalumbir_check_epochs(const uint8_t *table, size_t table_len);
 /* ---- lines: the count is that of the page's slots in `out` */
 
 /* Writes the page with the given slot, which is exactly one slot long, at its rising place.
- * Refuses 1 (page), 1 (slot), 2, 9, 11, 8. Stack: 270 bytes. */
+ * Refuses 1 (page), 1 (slot), 2, 9, 11, 8. Stack: 180 bytes. */
 uint64_t kadalumbir_insert(const uint8_t *page, size_t page_len, const uint8_t *slot, size_t slot_len, uint8_t *out,
                            size_t out_len);
 
 /* Writes the page without the slot that has the given slot's name; the given line number is ignored.
- * Refuses 1 (page), 1 (slot), 2, 10, 8. Stack: 250 bytes. */
+ * Refuses 1 (page), 1 (slot), 2, 10, 8. Stack: 210 bytes. */
 uint64_t kadalumbir_remove(const uint8_t *page, size_t page_len, const uint8_t *slot, size_t slot_len, uint8_t *out,
                            size_t out_len);
 
 /* Writes one slot with line number 0 and a new name for the gap before slot `gap`, or after the last where `gap` is the
  * number of slots. The author's (node, sequence) is taken as given: that it was never used before, which keeps two
  * units' names apart, is the caller's affair. The count is 0, though a slot is written.
- * Refuses 1, 2, 4, 16, 12, 6, 8. Stack: 550 bytes. */
+ * Refuses 1, 2, 4, 16, 12, 6, 8. Stack: 560 bytes. */
 uint64_t kadalumbir_new_name(const uint8_t *page, size_t page_len, size_t gap, uint16_t node, uint32_t sequence,
                              uint8_t *out, size_t out_len);
 
@@ -138,13 +138,13 @@ uint64_t kadalumbir_rename(const uint8_t *page, size_t page_len, const uint8_t *
                            uint32_t sequence, uint8_t *out, size_t out_len);
 
 /* Writes the page, which has names of after that rename, with the names of before it.
- * Refuses 1, 2, 3, 4, 6, 7, 8. Stack: 550 bytes. */
+ * Refuses 1, 2, 3, 4, 6, 7, 8. Stack: 560 bytes. */
 uint64_t kadalumbir_take_back(const uint8_t *page, size_t page_len, const uint8_t *log, size_t log_len, uint16_t node,
                               uint32_t sequence, uint8_t *out, size_t out_len);
 
 /* ---- old pages: the count is that of the slots, which keep their order, their names and their line numbers in `out` */
 
-/* Writes the old page as a page. Refuses 1, 2, 8. Stack: 150 bytes. */
+/* Writes the old page as a page. Refuses 1, 2, 8. Stack: 160 bytes. */
 uint64_t kadalumbir_from_old(const uint8_t *old, size_t old_len, uint8_t *out, size_t out_len);
 
 /* Writes the page as an old page, where every name has at most 8 tuples.
@@ -180,7 +180,7 @@ uint64_t kadalumbir_write_message(uint8_t kind, uint16_t epoch_node, uint32_t ep
 
 /* Sets kind, epoch, author and line number (0 unless insert), and writes the names, in slots with line number 0. The count
  * is that of the slots. A message has one writing, so that writing what was read gives the same bytes.
- * Refuses 15, 8. Stack: 170 bytes. */
+ * Refuses 15, 8. Stack: 200 bytes. */
 uint64_t kadalumbir_read_message(const uint8_t *message, size_t message_len, uint8_t *kind, uint16_t *epoch_node,
                                  uint32_t *epoch_sequence, uint16_t *author_node, uint32_t *author_sequence,
                                  uint32_t *line, uint8_t *out, size_t out_len);

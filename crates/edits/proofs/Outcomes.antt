@@ -13,7 +13,6 @@ use Rattle.slots.proofs.RoundTrip.{kept}
 use Rattle.answers.specs.Answers.{Outcome, Test, ask, inOrder, refuse, write}
 use Rattle.pages.specs.Pages.{maxSlots, slotsOf, namesOf, pieces, keepsLayout, rises}
 use Rattle.pages.specs.Places.{below, has, placeOf}
-use Rattle.pages.specs.declared.Place.{Place}
 use Rattle.pages.specs.declared.Place.the-variants.{Here, Gap}
 use Rattle.answers.specs.declared.Answer.the-variants.{Accepted}
 use Rattle.answers.specs.declared.Refusal.{Refusal}
@@ -21,29 +20,24 @@ use Rattle.answers.specs.declared.Refusal.the-variants.{Short, Present, Absent,
 use Rattle.pages.proofs.SlotBySlot.{length-slots, length-names}
 use Rattle.answers.proofs.Outcomes.{writes-short, writes}
 use Rattle.answers.specs.Laws.{Passed}
-use Rattle.answers.proofs.Refusals.{refuses, failed, reached}
+use Rattle.answers.proofs.Refusals.{refuses, failed, goes-on}
 use Rattle.pages.proofs.RoundTrip.{laid}
-use Rattle.edits.specs.declared.Checked.the-variants.{Refused as NotChecked, Found}
+use Rattle.edits.specs.declared.Checked.the-variants.{Refused as NotChecked, Passed as Checked}
 use Rattle.edits.specs.Edits.{placed, without, editTests, insertOutcome, removeOutcome}
 use Rattle.edits.proofs.Placed.{placed-split, without-split, below-most, below-less, is-gap, is-here}
 use Rattle.edits.proofs.EditedBytes.{with-bytes, without-bytes}
 
 -- ── the tests that both begin with ──
 
-no-found : {A : Type 0} (r : Refusal) (p : Place) → NotChecked r ≡ Found p → A
-no-found r p e = absurd (let z : _≡_ {A = ℕ} 0 1 = cc in omega arith)
+apart : (r : Refusal) → NotChecked r ≡ Checked → ⊥
+apart r e = absurd (let z : _≡_ {A = ℕ} 0 1 = cc in omega arith)
 
-module _ (page slot : Bytes) (p : Place) where
-  pub found : (q : Place) → inOrder (editTests page slot) NotChecked (Found p) ≡ Found q → Passed (editTests page slot) × (p ≡ q)
-  found q e =
-      let g = reached (λ x. x ≡ Found q) NotChecked (Found p) (λ r f. no-found r q f) (editTests page slot) e in
-      let h : Found p ≡ Found q = g .1 in
-      (g .0, cc)
+module _ (page slot : Bytes) where
+  pub checked : inOrder (editTests page slot) NotChecked Checked ≡ Checked → Passed (editTests page slot)
+  checked e = goes-on NotChecked Checked apart (editTests page slot) e
 
-  pub turned-away : (r : Refusal) (next : Outcome) → inOrder (editTests page slot) NotChecked (Found p) ≡ NotChecked r → inOrder (editTests page slot) refuse next ≡ refuse r
-  turned-away r next e =
-      let f = refuses NotChecked (Found p) (λ r f. no-found r p f) (λ q r f. cc) {r = r} (editTests page slot) e in
-      failed refuse next (editTests page slot) f
+  pub turned-away : (r : Refusal) (next : Outcome) → inOrder (editTests page slot) NotChecked Checked ≡ NotChecked r → inOrder (editTests page slot) refuse next ≡ refuse r
+  turned-away r next e = failed refuse next (editTests page slot) (refuses NotChecked Checked apart (λ q r f. cc) (editTests page slot) e)
 
 -- ── insert ──
 
@@ -128,9 +122,9 @@ pub insert-present : (page slot : Bytes) (room k : ℕ) → Passed (editTests pa
 unfolding insertOutcome
 insert-present page slot room k (layout, (slot-layout, (order, _))) e = rw (layout, slot-layout, order, is-here (nameOf slot) (namesOf page) k e .0)
 
-pub insert-refused : (page slot : Bytes) (room : ℕ) (p : Place) (r : Refusal) → inOrder (editTests page slot) NotChecked (Found p) ≡ NotChecked r → insertOutcome page slot room ≡ refuse r
+pub insert-refused : (page slot : Bytes) (room : ℕ) (r : Refusal) → inOrder (editTests page slot) NotChecked Checked ≡ NotChecked r → insertOutcome page slot room ≡ refuse r
 unfolding insertOutcome
-insert-refused page slot room p r e = turned-away page slot p r _ e
+insert-refused page slot room r e = turned-away page slot r _ e
 
 -- ── remove ──
 
@@ -201,6 +195,6 @@ pub remove-absent : (page slot : Bytes) (room k : ℕ) → Passed (editTests pag
 unfolding removeOutcome
 remove-absent page slot room k (layout, (slot-layout, (order, _))) e = rw (layout, slot-layout, order, is-gap (nameOf slot) (namesOf page) k e .0)
 
-pub remove-refused : (page slot : Bytes) (room : ℕ) (p : Place) (r : Refusal) → inOrder (editTests page slot) NotChecked (Found p) ≡ NotChecked r → removeOutcome page slot room ≡ refuse r
+pub remove-refused : (page slot : Bytes) (room : ℕ) (r : Refusal) → inOrder (editTests page slot) NotChecked Checked ≡ NotChecked r → removeOutcome page slot room ≡ refuse r
 unfolding removeOutcome
-remove-refused page slot room p r e = turned-away page slot p r _ e
+remove-refused page slot room r e = turned-away page slot r _ e

@@ -24,9 +24,9 @@ fn write_with(page: &[u8], slot: &[u8], k: usize, out: &mut [u8])
 {
     let p = SLOT * k;
     let all = SLOT;
-    numbers::copy(out, 0, &page[..p]);
+    slots::copy_long(out, 0, &page[..p]);
     numbers::copy(out, p, &slot[..all]);
-    numbers::copy(out, p + SLOT, &page[p..]);
+    slots::copy_long(out, p + SLOT, &page[p..]);
 }
 
 // The page without slot k, from the start of out.
@@ -36,19 +36,19 @@ fn write_without(page: &[u8], k: usize, out: &mut [u8])
 {
     let p = SLOT * k;
     let q = p + SLOT;
-    numbers::copy(out, 0, &page[..p]);
-    numbers::copy(out, p, &page[q..]);
+    slots::copy_long(out, 0, &page[..p]);
+    slots::copy_long(out, p, &page[q..]);
 }
 
-// What stands before an edit: a refusal, or the place of the slot's name.
+// What stands before an edit: a refusal, or none so far.
 enum Checked {
     Refused(Refusal),
-    Found(Place),
+    Passed,
 }
 
-// 1 (page), 1 (slot), 2; else the place. The slot is looked at first, since both refuse with 1.
+// 1 (page), 1 (slot), 2. The slot is looked at first, since both refuse with 1.
 fn check_edit(page: &[u8], slot: &[u8]) -> Checked
-    ensures { λ r. ⌜ r ≡ inOrder (editTests (now (page .entry)) (now (slot .entry))) Checked.Refused (Checked.Found (placeOf (nameOf (now (slot .entry))) (namesOf (now (page .entry))))) ⌝ }
+    ensures { λ r. ⌜ r ≡ inOrder (editTests (now (page .entry)) (now (slot .entry))) Checked.Refused Checked.Passed ⌝ }
 {
     if !pages::slot_ok(slot) {
         return Checked::Refused(Refusal::BadLayout);
@@ -56,7 +56,7 @@ fn check_edit(page: &[u8], slot: &[u8]) -> Checked
     match pages::look(page) {
         Seen::Broken => Checked::Refused(Refusal::BadLayout),
         Seen::NotRising => Checked::Refused(Refusal::NotRising),
-        Seen::Rising => Checked::Found(pages::find(page, slot)),
+        Seen::Rising => Checked::Passed,
     }
 }
 
@@ -96,11 +96,11 @@ pub fn insert(page: &[u8], slot: &[u8], out: &mut [u8]) -> Answer
     ensures { λ r. ⌜ r ≡ insertOutcome (now (page .entry)) (now (slot .entry)) (length (now (out .entry))) .answer ⌝ }
     ensures { λ r. ⌜ now (out .exit) ≡ leaves (insertOutcome (now (page .entry)) (now (slot .entry)) (length (now (out .entry)))) (now (out .entry)) ⌝ }
 {
-    let place = match check_edit(page, slot) {
+    match check_edit(page, slot) {
         Checked::Refused(r) => return Answer::Refused(r),
-        Checked::Found(place) => place,
-    };
-    match place {
+        Checked::Passed => {}
+    }
+    match pages::find(page, slot) {
         Place::Here(_) => Answer::Refused(Refusal::Present),
         Place::Gap(k) => insert_at(page, slot, k, out),
     }
@@ -111,11 +111,11 @@ pub fn remove(page: &[u8], slot: &[u8], out: &mut [u8]) -> Answer
     ensures { λ r. ⌜ r ≡ removeOutcome (now (page .entry)) (now (slot .entry)) (length (now (out .entry))) .answer ⌝ }
     ensures { λ r. ⌜ now (out .exit) ≡ leaves (removeOutcome (now (page .entry)) (now (slot .entry)) (length (now (out .entry)))) (now (out .entry)) ⌝ }
 {
-    let place = match check_edit(page, slot) {
+    match check_edit(page, slot) {
         Checked::Refused(r) => return Answer::Refused(r),
-        Checked::Found(place) => place,
-    };
-    match place {
+        Checked::Passed => {}
+    }
+    match pages::find(page, slot) {
         Place::Here(k) => remove_at(page, slot, k, out),
         Place::Gap(_) => Answer::Refused(Refusal::Absent),
     }

@@ -1,16 +1,16 @@
 -- What stands at the place p of a message s, told by the bytes of s (`name-at`, `tuples-at`, `pair-at`, `nothing-at`), with how far it
--- reaches (`name-long`, `line-long`), and a turn along the names from there (`names-next`, `after-next`). Assumes nothing.
+-- reaches (`name-long`, `name-whole`, `line-long`); what the code has found there of a name (`field-tuples`, `field-nothing`); and a turn along the names from there (`names-next`, `after-next`). Assumes nothing.
 use mathlib.Core.Path.{_≡_, refl, sym, ap, _∙_}
 use mathlib.Core.List.{_∷_}
-use mathlib.Core.Bool.{Bool, true, cond, _&&_, and-true}
-use Prim.Native.Nat.{ℕ, suc, _+_, _-_, _/_, _%_, _<_, _≤_}
+use mathlib.Core.Bool.{Bool, true, false, cond, _&&_, and-true}
+use Prim.Native.Nat.{ℕ, suc, _+_, _-_, _*_, _/_, _%_, _<_, _≤_}
 use native.Mathlib.Decide.{decLe}
 use native.Mathlib.Omega.{arith}
-use borrow.Author.Tests.{eq-eqb, ne-eqb}
+use borrow.Author.Tests.{eq-eqb, ne-eqb, eqb-true}
 use lib.Dec.{leb, eqb}
 use lib.ListN.{length, drop, getD, length-drop}
 use lib.Seq.{drop-drop}
-use Rattle.numbers.proofs.Bools.{and-0}
+use Rattle.numbers.proofs.Bools.{and-0, and-1}
 use Rattle.numbers.specs.Bytes.{Bytes, at16}
 use Rattle.slots.specs.Tuples.{tupleSize, tuplesAt}
 use Rattle.numbers.proofs.ReadNumbers.{two-on, four-on}
@@ -19,6 +19,8 @@ use Rattle.fields.specs.Fields.{fieldHead, sizeIn, afterField, stands}
 use Rattle.fields.proofs.FieldAt.{size-at, stands-at, stands-long}
 use Rattle.messages.specs.Messages.{insert, nameTag, lineTag, lineSize, sequencePlace, pairIn, nameStands, tuplesIn, namesWithin, afterNames, nothing, endsAs}
 use Rattle.messages.proofs.NameFields.{names-turn, after-turn}
+use Rattle.read_messages.specs.declared.NameField.the-variants.{Tuples, Nothing}
+use Rattle.read_messages.specs.FirstPass.{fieldIn}
 
 module _ (s : Bytes) (p : ℕ) where
   pub name-at : nameStands (drop p s)
@@ -61,6 +63,27 @@ module _ (s : Bytes) (p : ℕ) where
       let stood = stands lineTag lineSize t && nothing (afterField t) in
       let h : stood ≡ true = sym (ap (λ (b : Bool). cond b stood (nothing t)) (eq-eqb kind insert k)) ∙ e in
       stands-long s p lineTag lineSize (and-0 (stands lineTag lineSize t) (nothing (afterField t)) h) .0
+
+-- ── what the code has found ──
+
+tuples-told : (b : Bool) (m n : ℕ) → cond b (Tuples m) Nothing ≡ Tuples n → (b ≡ true) × (m ≡ n)
+tuples-told true m n e = (refl, let same : Tuples m ≡ Tuples n = e in cc)
+tuples-told false m n e = absurd (let z : _≡_ {A = ℕ} 0 1 = cc in omega arith)
+
+nothing-told : (b : Bool) (m : ℕ) → cond b (Tuples m) Nothing ≡ Nothing → b ≡ false
+nothing-told true m e = absurd (let z : _≡_ {A = ℕ} 0 1 = cc in omega arith)
+nothing-told false m e = refl
+
+module _ (t : Bytes) where
+  pub field-tuples : (n : ℕ) → fieldIn t ≡ Tuples n → (nameStands t ≡ true) × (sizeIn t / tupleSize ≡ n)
+  field-tuples n e = tuples-told (nameStands t) (sizeIn t / tupleSize) n e
+
+  pub field-nothing : fieldIn t ≡ Nothing → nameStands t ≡ false
+  field-nothing e = nothing-told (nameStands t) (sizeIn t / tupleSize) e
+
+  -- the content is a whole number of tuples
+  pub name-whole : nameStands t ≡ true → tupleSize * (sizeIn t / tupleSize) ≡ sizeIn t
+  name-whole e = omega (arith, eqb-true (sizeIn t % tupleSize) 0 (and-1 (stands nameTag (sizeIn t) t) (eqb (sizeIn t % tupleSize) 0) e))
 
 -- a turn at p of s, where k of the names have been passed
 module _ (s : Bytes) (p most k : ℕ) (h : k < most) (e : nameStands (drop p s) ≡ true) where

@@ -7,11 +7,14 @@ use Prim.Native.Nat.{ℕ, _+_, _-_, _<_, _≤_}
 use native.Mathlib.Omega.{arith}
 use lib.ListN.{length, drop}
 use Rattle.names.specs.Ordering.{Row, compareRows, isLess, rising}
-use Rattle.names.specs.Names.{isName}
+use Rattle.names.specs.Names.{isName, fits}
 use Rattle.numbers.specs.Bytes.{Bytes}
 use Rattle.numbers.specs.Lists.{every}
+use Rattle.numbers.proofs.Bools.{and-0}
 use Rattle.slots.specs.declared.Span.{Span}
 use Rattle.slots.specs.Tuples.{rowAt, Within}
+use Rattle.slots.specs.Looks.{leads}
+use Rattle.slots.proofs.NameTests.{leads-name}
 use Rattle.pages.proofs.SlotBySlot.{rising-cons}
 use Rattle.fields.specs.Fields.{fieldHead, sizeIn}
 use Rattle.messages.specs.Messages.{nameFits, nameStands, tuplesIn, namesWithin, afterNames}
@@ -33,21 +36,31 @@ good-last : (b : Row) → true ≡ goodAfter b []
 unfolding rising
 good-last b = refl
 
+-- two tests of one and two of the rest, one by one
+crossed : (f g h k : Bool) → (f && g) && (h && k) ≡ (f && h) && (g && k)
+crossed false g h k = refl
+crossed true g true k = refl
+crossed true g false k = and-false g
+
 module _ (b a : Row) (l : List Row) where
-  good-on : nameFits a ≡ true → isLess (compareRows b a) ≡ true → goodAfter b (a ∷ l) ≡ goodAfter a l
-  good-on f g = rw (rising-cons b a l, f, g)
+  -- a is a name and above b, and they go on after a
+  good-next : goodAfter b (a ∷ l) ≡ (nameFits a && isLess (compareRows b a)) && goodAfter a l
+  good-next =
+      ap (λ (x : Bool). every nameFits (a ∷ l) && x) (rising-cons b a l)
+      ∙ crossed (nameFits a) (every nameFits l) (isLess (compareRows b a)) (rising (a ∷ l))
 
-  good-unfit : nameFits a ≡ false → goodAfter b (a ∷ l) ≡ false
-  good-unfit f = rw f
+  good-on : nameFits a && isLess (compareRows b a) ≡ true → goodAfter b (a ∷ l) ≡ goodAfter a l
+  good-on f = good-next ∙ ap (λ (x : Bool). x && goodAfter a l) f
 
-  good-falls : isLess (compareRows b a) ≡ false → goodAfter b (a ∷ l) ≡ false
-  good-falls g = rw (rising-cons b a l, g) (and-false (every nameFits (a ∷ l)))
+  good-stops : nameFits a && isLess (compareRows b a) ≡ false → goodAfter b (a ∷ l) ≡ false
+  good-stops f = good-next ∙ ap (λ (x : Bool). x && goodAfter a l) f
 
 -- k names were passed from c on, the last of them stands at b; the cursor is at p
 pub record Passing (s : Bytes) (c most : ℕ) (b : Span) (p k : ℕ) : Type 0 where
   pub few : k ≤ most
   pub within : p ≤ length s
   pub room : Within s b
+  pub begins : leads (rowAt s b) ≡ true
   pub good : goodAfter (rowAt s b) (namesWithin (most - k) (drop p s)) ≡ goodNames (namesWithin most (drop c s))
   pub count : k + length (namesWithin (most - k) (drop p s)) ≡ length (namesWithin most (drop c s))
   pub rest : afterNames (most - k) (drop p s) ≡ afterNames most (drop c s)
@@ -60,6 +73,7 @@ passing-first s c most h =
       few = omega arith;
       within = h;
       room = omega arith;
+      begins = refl;
       good = ap (goodAfter []) n ∙ good-first (namesWithin most (drop c s));
       count = let z = ap length n in omega arith;
       rest = ap (λ (n : ℕ). afterNames n (drop c s)) e;
@@ -94,21 +108,17 @@ module _ {s : Bytes} {c most : ℕ} {b : Span} {p k : ℕ} (v : Passing s c most
     turn : goodAfter last (here ∷ after) ≡ goodNames (namesWithin most (drop c s))
     turn = sym (ap (goodAfter last) next) ∙ v .good
 
-    pub passing-unfit : nameFits (rowAt s a) ≡ false → false ≡ goodNames (namesWithin most (drop c s))
-    passing-unfit f = sym (good-unfit last here after f) ∙ turn
+    pub passing-stops : nameFits (rowAt s a) && isLess (compareRows (rowAt s b) (rowAt s a)) ≡ false → false ≡ goodNames (namesWithin most (drop c s))
+    passing-stops f = sym (good-stops last here after f) ∙ turn
 
-    pub passing-falls : isLess (compareRows (rowAt s b) (rowAt s a)) ≡ false
-        → false ≡ goodNames (namesWithin most (drop c s))
-    passing-falls g = sym (good-falls last here after g) ∙ turn
-
-    pub passing-on : Within s a → nameFits (rowAt s a) ≡ true
-        → isLess (compareRows (rowAt s b) (rowAt s a)) ≡ true
+    pub passing-on : Within s a → nameFits (rowAt s a) && isLess (compareRows (rowAt s b) (rowAt s a)) ≡ true
         → Passing s c most a (p + (fieldHead + sizeIn (drop p s))) (k + 1)
-    passing-on r f g = record {
+    passing-on r f = record {
       few = omega arith;
       within = name-long s p e;
       room = r;
-      good = sym (good-on last here after f g) ∙ turn;
+      begins = leads-name s (a .at) (a .count) (and-0 (isName here) (fits here) (and-0 (nameFits here) (isLess (compareRows last here)) f));
+      good = sym (good-on last here after f) ∙ turn;
       count = let n = v .count in let z = ap length next in omega arith;
       rest = sym (after-next s p most k h e) ∙ v .rest;
     }

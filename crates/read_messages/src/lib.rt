@@ -11,12 +11,13 @@ ghost use Rattle.numbers.specs.Bytes.{at32, put};
 ghost use Rattle.numbers.specs.Lists.{every};
 ghost use Rattle.slots.specs.Tuples.{rowAt, Within};
 ghost use Rattle.slots.specs.Slots.{slotSize};
+ghost use Rattle.slots.specs.Looks.{leads};
 ghost use Rattle.answers.specs.Answers.{ask, leaves};
 ghost use Rattle.pages.specs.Pages.{pieces};
 ghost use Rattle.fields.specs.Fields.{fieldHead};
 ghost use Rattle.messages.specs.Messages.{insert, pairSize, isKind, isEpoch, isAuthor, isLine, nameFits, nameStands, tuplesIn, namesWithin, afterNames, epochPlace, namesPlace, pairIn, kindIn, restIn, numbersIn, endsAs};
 ghost use Rattle.messages.specs.Calls.{bare, readOutcome, zeros as noNumbers, numbersRead};
-ghost use Rattle.read_messages.specs.FirstPass.{numbersStand, goodNames, allTold, untold as nothingTold, telling};
+ghost use Rattle.read_messages.specs.FirstPass.{numbersStand, goodNames, allTold, untold as nothingTold, telling, fieldIn};
 use answers::Answer;
 use answers::Refusal;
 use fields::Cursor;
@@ -43,19 +44,29 @@ use slots::TUPLE;
 
 // ── what stands at a cursor ──
 
-// A name's field stands whole at the cursor: "a name's tuples, 12 bytes each".
-fn name_stands(message: &[u8], cursor: Cursor) -> bool
+// What stands at a cursor: the whole field of a name, with how many tuples it has, or none.
+enum NameField {
+    Tuples(usize),
+    Nothing,
+}
+
+// "a name's tuples, 12 bytes each". Their number is found once, with the test that the content is a whole number of them.
+fn name_field(message: &[u8], cursor: Cursor) -> NameField
     requires { ⌜ cursor .at ≤ length (now message) ⌝ }
-    ensures { λ r. ⌜ r ≡ nameStands (drop (cursor .at) (now (message .entry))) ⌝ }
+    ensures { λ r. ⌜ r ≡ fieldIn (drop (cursor .at) (now (message .entry))) ⌝ }
 {
     if message.len() - cursor.at < FIELD {
-        return false;
+        return NameField::Nothing;
     }
     let size = fields::size_at(message, cursor);
     if !fields::field_stands(message, cursor, NAME_TAG, size) {
-        return false;
+        return NameField::Nothing;
     }
-    size % TUPLE == 0
+    let count = size / TUPLE;
+    if TUPLE * count < size {
+        return NameField::Nothing;
+    }
+    NameField::Tuples(count)
 }
 
 // Where the tuples of the name stand whose field stands at the cursor.
@@ -68,18 +79,18 @@ fn span_in(message: &[u8], cursor: Cursor) -> Span
     Span { at, count }
 }
 
-// The tuples are 1 to LIMIT and are a name.
-fn name_fits(message: &[u8], tuples: Span) -> bool
-    requires { ⌜ Within (now message) tuples ⌝ }
-    ensures { λ r. ⌜ r ≡ nameFits (rowAt (now (message .entry)) tuples) ⌝ }
+// The tuples are 1 to LIMIT, are a name, and rise above the last. What the two names share is looked at once.
+fn name_follows(message: &[u8], last: Span, name: Span) -> bool
+    requires { ⌜ Within (now message) last × (leads (rowAt (now message) last) ≡ true) × Within (now message) name ⌝ }
+    ensures { λ r. ⌜ r ≡ (nameFits (rowAt (now (message .entry)) name) && isLess (compareRows (rowAt (now (message .entry)) last) (rowAt (now (message .entry)) name))) ⌝ }
 {
-    if tuples.count < 1 {
+    if name.count < 1 {
         return false;
     }
-    if LIMIT < tuples.count {
+    if LIMIT < name.count {
         return false;
     }
-    slots::name_at(message, tuples.at, tuples.count)
+    slots::follows(message, last.at, last.count, message, name.at, name.count)
 }
 
 // The fields of kind, epoch and author stand one after the other from the cursor on.
@@ -180,21 +191,6 @@ struct Passed {
     at: usize,
 }
 
-// "rising": the first name is below the second, compared where they stand in the message.
-fn rises(message: &[u8], first: Span, second: Span) -> bool
-    requires { ⌜ Within (now message) first × Within (now message) second ⌝ }
-    ensures { λ r. ⌜ r ≡ isLess (compareRows (rowAt (now (message .entry)) first) (rowAt (now (message .entry)) second)) ⌝ }
-{
-    names::is_less(slots::compare_rows(
-        message,
-        first.at,
-        first.count,
-        message,
-        second.at,
-        second.count,
-    ))
-}
-
 // The names whose fields stand one after the other from the cursor on, at most so many. Kept of the last is where it stands; at first that
 // is the row of no tuples, which is below every name.
 fn pass_names(message: &[u8], cursor: Cursor, most: usize) -> Passed
@@ -216,32 +212,27 @@ fn pass_names(message: &[u8], cursor: Cursor, most: usize) -> Passed
                 at,
             };
         }
-        let here = Cursor { at };
-        if !name_stands(message, here) {
-            break Passed {
+        let count = match name_field(message, Cursor { at }) {
+            NameField::Tuples(n) => n,
+            NameField::Nothing => break Passed {
                 good: true,
                 names,
                 at,
-            };
-        }
-        let name = span_in(message, here);
-        if !name_fits(message, name) {
+            },
+        };
+        let name = Span {
+            at: at + FIELD,
+            count,
+        };
+        if !name_follows(message, last, name) {
             break Passed {
                 good: false,
                 names,
                 at,
             };
         }
-        if !rises(message, last, name) {
-            break Passed {
-                good: false,
-                names,
-                at,
-            };
-        }
-        let next = fields::after_field(message, here);
         last = name;
-        at = next.at;
+        at = name.at + TUPLE * count;
         names += 1;
     }
 }

@@ -1,23 +1,25 @@
 -- The rule of a name, tuple by tuple where they stand: the tuples before the last are such as a name begins with, and the last is one
--- (`name-by`). What is known of its first tuples (`leads-from`, `leads-fewer`, `leads-name`), and the name of a slot. Assumes nothing.
+-- (`name-by`). What is known of its first tuples (`leads-fewer`, `leads-at`, `leads-not`, `leads-name`), and the name of a slot. Assumes nothing.
 use mathlib.Core.Path.{_≡_, refl, _∙_, sym, ap}
-use mathlib.Core.Bool.{Bool, true, false, _&&_, _||_, and-assoc}
-use Prim.Native.Nat.{ℕ, zero, suc, _+_, _-_, _*_, _<_, _≤_, min}
+use mathlib.Core.List.{[], _∷_}
+use mathlib.Core.Bool.{Bool, true, false, _&&_, _||_, and-assoc, and-true}
+use Prim.Native.Nat.{ℕ, zero, suc, _+_, _-_, _*_, _≤_, min}
 use native.Mathlib.Nat.{le-of-suc-le-suc, not-suc-le-zero}
 use native.Mathlib.Omega.{arith}
+use borrow.Author.Tests.{lt-ltb}
 use lib.Dec.{ltb}
 use lib.IntN.{pos}
-use lib.ListN.{length, take, drop}
-use Rattle.names.specs.Names.{limit, m, ordinary, ordinaryFrom, marker, endsWell, isName}
+use lib.ListN.{take}
+use Rattle.names.specs.Names.{limit, ordinary, ordinaryFrom, marker, endsWell, isName}
 use Rattle.numbers.specs.Lists.{every}
-use Rattle.numbers.proofs.Every.{every-at, every-end}
+use Rattle.numbers.proofs.Every.{every-append}
 use Rattle.numbers.proofs.Bools.{and-0, and-1}
 use Rattle.numbers.proofs.Lists.{take-min}
 use Rattle.numbers.specs.Bytes.{Bytes, at32}
 use Rattle.slots.specs.Tuples.{tupleAt, tuplesAt, tupleSize}
 use Rattle.slots.specs.Slots.{headSize, depthOf, nameOver, nameOf}
 use Rattle.slots.specs.Looks.{inner, leads}
-use Rattle.slots.proofs.TuplesInBytes.{length-tuplesAt, getD-tuplesAt, take-tuplesAt}
+use Rattle.slots.proofs.TuplesInBytes.{length-tuplesAt, take-tuplesAt, more-tuplesAt}
 use Rattle.slots.proofs.TupleTests.{last-by}
 
 -- ── a name: what it begins with, and its last tuple ──
@@ -30,6 +32,14 @@ twice false x a b = refl
 once : (o a : Bool) → o && (o && a) ≡ o && a
 once true a = refl
 once false a = refl
+
+alone : (o : Bool) → o || false ≡ o && true
+alone true = refl
+alone false = refl
+
+fails : {b : Bool} (a : Bool) → (a ≡ true → b ≡ true) → false ≡ b → false ≡ a
+fails true f e = e ∙ f refl
+fails false f e = refl
 
 module _ (s : Bytes) where
   ends-by : (p k : ℕ) → endsWell (tuplesAt s p (suc k)) ≡ every inner (tuplesAt s p k) && ordinaryFrom (pos 0) (tupleAt s (p + tupleSize * k))
@@ -66,41 +76,6 @@ module _ (s : Bytes) where
 
   -- ── tuples that are known to begin a name ──
 
-  -- at a turn: the answer b for the tuple at k
-  pub inner-at : {b : Bool} (p n k : ℕ) → k < n → b ≡ inner (tupleAt s (p + tupleSize * k)) → b && every inner (drop (k + 1) (tuplesAt s p n)) ≡ every inner (drop k (tuplesAt s p n))
-  inner-at p n k h e =
-      let l : k < length (tuplesAt s p n) = omega (arith, length-tuplesAt s p n) in
-      every-at inner (tuplesAt s p n) k m l (e ∙ ap inner (sym (getD-tuplesAt s p n k h)))
-
-  pub inner-end : (p n k : ℕ) → n ≤ k → true ≡ every inner (drop k (tuplesAt s p n))
-  inner-end p n k h = let l : length (tuplesAt s p n) ≤ k = omega (arith, length-tuplesAt s p n) in every-end inner (tuplesAt s p n) k l
-
-  all-from : (p i n : ℕ) → every inner (tuplesAt s p i) ≡ true → every inner (drop i (tuplesAt s p n)) ≡ every inner (tuplesAt s p n)
-  all-from p zero n e = refl
-  all-from p (suc i) zero e = refl
-  all-from p (suc i) (suc n) e =
-      let a = inner (tupleAt s p) in
-      let b = every inner (tuplesAt s (p + tupleSize) i) in
-      all-from (p + tupleSize) i n (and-1 a b e) ∙ ap (λ (c : Bool). c && every inner (tuplesAt s (p + tupleSize) n)) (sym (and-0 a b e))
-
-  -- after the first i, one at least, the others decide
-  pub leads-from : (p i n : ℕ) → 1 ≤ i → leads (tuplesAt s p i) ≡ true → every inner (drop i (tuplesAt s p n)) ≡ leads (tuplesAt s p n)
-  leads-from p zero n h e = absurd (not-suc-le-zero h)
-  leads-from p (suc i) zero h e = refl
-  leads-from p (suc i) (suc n) h e =
-      let a = ordinary (tupleAt s p) in
-      let b = every inner (tuplesAt s (p + tupleSize) i) in
-      all-from (p + tupleSize) i n (and-1 a b e) ∙ ap (λ (c : Bool). c && every inner (tuplesAt s (p + tupleSize) n)) (sym (and-0 a b e))
-
-  -- where the first is not ordinary no name begins so
-  pub leads-not : (p n : ℕ) → 1 ≤ n → ordinary (tupleAt s p) ≡ false → false ≡ leads (tuplesAt s p n)
-  leads-not p zero h e = absurd (not-suc-le-zero h)
-  leads-not p (suc n) h e = λ i. sym e i && every inner (tuplesAt s (p + tupleSize) n)
-
-  pub leads-first : (p k : ℕ) → 1 ≤ k → leads (tuplesAt s p k) ≡ true → ordinary (tupleAt s p) ≡ true
-  leads-first p zero h e = absurd (not-suc-le-zero h)
-  leads-first p (suc k) h e = and-0 (ordinary (tupleAt s p)) (every inner (tuplesAt s (p + tupleSize) k)) e
-
   all-fewer : (p i n : ℕ) → i ≤ n → every inner (tuplesAt s p n) ≡ true → every inner (tuplesAt s p i) ≡ true
   all-fewer p zero n h e = refl
   all-fewer p (suc i) zero h e = absurd (not-suc-le-zero h)
@@ -116,6 +91,26 @@ module _ (s : Bytes) where
       let a = ordinary (tupleAt s p) in
       let b = every inner (tuplesAt s (p + tupleSize) n) in
       λ j. and-0 a b e j && all-fewer (p + tupleSize) i n (le-of-suc-le-suc h) (and-1 a b e) j
+
+  -- the answer b for the tuple after i that begin a name: ordinary, or a marker that is not the first
+  pub leads-at : {b : Bool} (p i : ℕ) → leads (tuplesAt s p i) ≡ true → b ≡ ordinary (tupleAt s (p + tupleSize * i)) || (ltb 0 i && marker (tupleAt s (p + tupleSize * i))) →
+      b ≡ leads (tuplesAt s p (i + 1))
+  leads-at p zero h e = e ∙ alone (ordinary (tupleAt s (p + tupleSize * 0))) ∙ ap (λ (q : ℕ). ordinary (tupleAt s q) && true) (omega arith)
+  leads-at p (suc i) h e =
+      let a = tuplesAt s (p + tupleSize) i in
+      let t = tupleAt s (p + tupleSize * suc i) in
+      let o = ordinary (tupleAt s p) in
+      e
+      ∙ ap (λ (c : Bool). ordinary t || (c && marker t)) (lt-ltb 0 (suc i) (omega arith))
+      ∙ sym (and-true (inner t))
+      ∙ (λ j. sym h j && (inner t && true))
+      ∙ and-assoc o (every inner a) (inner t && true)
+      ∙ ap (λ (c : Bool). o && c) (sym (every-append inner a (t ∷ [])))
+      ∙ ap leads (more-tuplesAt s p (suc i))
+
+  -- where i tuples begin no name, no more of them do
+  pub leads-not : (p i n : ℕ) → i ≤ n → false ≡ leads (tuplesAt s p i) → false ≡ leads (tuplesAt s p n)
+  leads-not p i n h e = fails (leads (tuplesAt s p n)) (λ k. leads-fewer p i n h k) e
 
   -- a name is followed by names that begin as it does
   ends-inner : (p n : ℕ) → endsWell (tuplesAt s p n) ≡ true → every inner (tuplesAt s p n) ≡ true

@@ -1,12 +1,13 @@
 -- Tuples compared in two pieces, position, node and sequence as one number and the offset raised by 2³¹ (`packed`), of tuples in bytes
 -- (`held-at`, `front-at`) and by value (`held-by`). What is left of a comparison of two rows in bytes (`left-all`, `left-same`, `left-less`,
--- `left-more`, `left-at`), after equal tuples (`alike-compare`), and of one with a tuple (`first-tuple`). Assumes nothing.
+-- `left-more`, `left-at`, `left-not`, `left-differ`), after equal tuples (`alike-compare`, `left-alike`), and of one with a tuple
+-- (`first-tuple`). Assumes nothing.
 use mathlib.Core.Path.{_≡_, refl, _∙_, sym, ap}
 use mathlib.Core.Logic.{inl, inr}
 use mathlib.Core.List.{[], _∷_, _++_}
-use mathlib.Core.Bool.{true}
+use mathlib.Core.Bool.{true, false}
 use Prim.Native.Nat.{ℕ, _+_, _*_, _-_, _%_, _<_, _≤_}
-use native.Mathlib.Decide.{decLt}
+use native.Mathlib.Decide.{decLe, decLt}
 use native.Mathlib.Nat.{suc-mul, mul-le-mul-right}
 use native.Mathlib.Omega.{arith}
 use lib.ListN.{length, drop, getD}
@@ -14,7 +15,7 @@ use lib.Seq.{take-all}
 use Rattle.names.specs.declared.Tuple.{Tuple}
 use Rattle.names.specs.declared.Order.{Order}
 use Rattle.names.specs.declared.Order.the-variants.{Less, Same, More}
-use Rattle.names.specs.Ordering.{Row, compareℕ, compareℤ, then, compareTuples, compareRows, isSame}
+use Rattle.names.specs.Ordering.{Row, compareℕ, compareℤ, then, compareTuples, compareRows, isLess, isSame}
 use Rattle.names.specs.Names.{m}
 use Rattle.names.proofs.Laws.{ℕ-less, ℕ-same, ℕ-more, ℕ-cases, tuple-same, same-tuple}
 use Rattle.names.proofs.CompareTuples.{left, left-same as both-ended, left-less as first-ended, left-more as second-ended, left-at as turn, to-one}
@@ -22,7 +23,7 @@ use Rattle.numbers.specs.Bytes.{Bytes, Octets, at32, at64, signed, unsigned}
 use Rattle.numbers.proofs.ReadNumbers.{fits16, fits32, signed-pos, signed-neg}
 use Rattle.numbers.proofs.TwosComplement.{Word, signed-unsigned, unsigned-fits}
 use Rattle.slots.specs.Tuples.{tupleAt, tuplesAt, tupleSize}
-use Rattle.slots.proofs.TuplesInBytes.{length-tuplesAt, getD-tuplesAt, split-tuplesAt, more-tuplesAt}
+use Rattle.slots.proofs.TuplesInBytes.{length-tuplesAt, getD-tuplesAt, drop-tuplesAt, split-tuplesAt, more-tuplesAt}
 
 -- position, node and sequence as one number
 abbrev pub front : Tuple → ℕ
@@ -141,6 +142,12 @@ front-at s p = refl
 abbrev pub left-from : Bytes → ℕ → ℕ → Bytes → ℕ → ℕ → ℕ → Order
 left-from a p n b q k i = left (tuplesAt a p n) (tuplesAt b q k) n k i
 
+-- a comparison that is not Same decides
+decides : (o r : Order) → isSame o ≡ false → isLess o ≡ isLess (then o r)
+decides Less r e = refl
+decides Same r e = absurd (let z : _≡_ {A = ℕ} 0 1 = cc in omega arith)
+decides More r e = refl
+
 module _ (a : Bytes) (p n : ℕ) (b : Bytes) (q k : ℕ) where
   long : n ≤ length (tuplesAt a p n)
   long = omega (arith, length-tuplesAt a p n)
@@ -148,8 +155,11 @@ module _ (a : Bytes) (p n : ℕ) (b : Bytes) (q k : ℕ) where
   long' : k ≤ length (tuplesAt b q k)
   long' = omega (arith, length-tuplesAt b q k)
 
+  left-rows : (i : ℕ) → left-from a p n b q k i ≡ compareRows (drop i (tuplesAt a p n)) (drop i (tuplesAt b q k))
+  left-rows i = λ j. compareRows (drop i (take-all n (tuplesAt a p n) (omega (arith, length-tuplesAt a p n)) j)) (drop i (take-all k (tuplesAt b q k) (omega (arith, length-tuplesAt b q k)) j))
+
   pub left-all : left-from a p n b q k 0 ≡ compareRows (tuplesAt a p n) (tuplesAt b q k)
-  left-all = λ i. compareRows (take-all n (tuplesAt a p n) (omega (arith, length-tuplesAt a p n)) i) (take-all k (tuplesAt b q k) (omega (arith, length-tuplesAt b q k)) i)
+  left-all = left-rows 0
 
   pub left-same : (i : ℕ) → n ≤ i → k ≤ i → Same ≡ left-from a p n b q k i
   left-same i h g = both-ended (tuplesAt a p n) (tuplesAt b q k) n k i m long long' h g
@@ -167,6 +177,18 @@ module _ (a : Bytes) (p n : ℕ) (b : Bytes) (q k : ℕ) where
       let s : compareTuples (tupleAt a (p + tupleSize * i)) (tupleAt b (q + tupleSize * i)) ≡ compareTuples (getD (tuplesAt a p n) i m) (getD (tuplesAt b q k) i m) =
       λ j. compareTuples (sym (getD-tuplesAt a p n i h) j) (sym (getD-tuplesAt b q k i g) j) in
       turn (tuplesAt a p n) (tuplesAt b q k) n k i m long long' (sym f ∙ e ∙ s) h g
+
+  -- the second has ended
+  pub left-not : (i : ℕ) → k ≤ i → false ≡ isLess (left-from a p n b q k i)
+  left-not i g = elim (decLe n i) [ yes h ↦ ap isLess (left-same i h g) | no h ↦ ap isLess (left-more i (omega arith) g) ]
+
+  -- the tuples at i differ
+  pub left-differ : (i : ℕ) → i < n → i < k →
+      isSame (compareTuples (tupleAt a (p + tupleSize * i)) (tupleAt b (q + tupleSize * i))) ≡ false →
+      isLess (compareTuples (tupleAt a (p + tupleSize * i)) (tupleAt b (q + tupleSize * i))) ≡ isLess (left-from a p n b q k i)
+  left-differ i h g e =
+      decides (compareTuples (tupleAt a (p + tupleSize * i)) (tupleAt b (q + tupleSize * i))) (left-from a p n b q k (i + 1)) e
+      ∙ ap isLess (left-at i refl refl h g)
 
 -- ── rows that begin alike ──
 
@@ -198,6 +220,13 @@ module _ (a : Bytes) (p : ℕ) (b : Bytes) (q : ℕ) (i : ℕ) (e : tuplesAt a p
       sym (after-alike (tuplesAt b q i) x y)
       ∙ (λ j. compareRows (sym e j ++ x) (tuplesAt b q i ++ y))
       ∙ (λ j. compareRows (split-tuplesAt a p n i h j) (split-tuplesAt b q k i g j))
+
+  -- .. and as what is left from i on
+  pub left-alike : (n k : ℕ) → i ≤ n → i ≤ k → left-from a p n b q k i ≡ compareRows (tuplesAt a p n) (tuplesAt b q k)
+  left-alike n k h g =
+      left-rows a p n b q k i
+      ∙ (λ j. compareRows (sym (drop-tuplesAt a p n i h) j) (sym (drop-tuplesAt b q k i g) j))
+      ∙ alike-compare n k h g
 
 -- ── a row and one tuple ──
 

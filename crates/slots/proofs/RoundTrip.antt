@@ -203,7 +203,8 @@ ends-words (onward i e) = more (middle-word i) (ends-words e)
 pub name-words : (a : Row) → isName a ≡ true → Words a
 name-words a e = ends-words (valid-ends (name-valid a e))
 
-name-long : (a : Row) → isName a ≡ true → 1 ≤ length a
+-- a name has a tuple
+pub name-long : (a : Row) → isName a ≡ true → 1 ≤ length a
 unfolding isName
 name-long [] e = absurd (let z : _≡_ {A = ℕ} 0 1 = cc in omega arith)
 name-long (t ∷ a) e = omega arith

@@ -12,12 +12,13 @@ use Rattle.slots.proofs.read_line.Reads as read-line
 use Rattle.slots.proofs.compare_rows.Reads as compare-rows
 use Rattle.slots.proofs.compare_to_one.Reads as compare-to-one
 use Rattle.slots.proofs.compare_slots.Reads as compare-slots
-use Rattle.slots.proofs.name_at.Reads as name-at
+use Rattle.slots.proofs.follows.Reads as follows
 use Rattle.slots.proofs.look_after.Reads as look-after
 use Rattle.slots.proofs.write_tuple.Reads as write-tuple
 use Rattle.slots.proofs.write_row.Reads as write-row
 use Rattle.slots.proofs.copy_row.Reads as copy-row
 use Rattle.slots.proofs.write_slot.Reads as write-slot
+use Rattle.slots.proofs.copy_long.Reads as copy-long
 use Rattle.slots.proofs.copy_slot.Reads as copy-slot
 use Rattle.slots.proofs.marker_at.Reads as marker-at
 use Rattle.slots.proofs.write_head.Reads as write-head
@@ -47,8 +48,8 @@ compare-to-one-settled κs a r s r' s' p q = one p q
 pub compare-slots-settled : (κs : _) (a : _) (r : _) (s : _) (r' : _) (s' : _) → compare-slots.Learnt κs a r s → compare-slots.Learnt κs a r' s' → r ≡ r'
 compare-slots-settled κs a r s r' s' p q = one p q
 
-pub name-at-settled : (κs : _) (a : _) (r : _) (s : _) (r' : _) (s' : _) → name-at.Learnt κs a r s → name-at.Learnt κs a r' s' → r ≡ r'
-name-at-settled κs a r s r' s' p q = one p q
+pub follows-settled : (κs : _) (a : _) (r : _) (s : _) (r' : _) (s' : _) → follows.Learnt κs a r s → follows.Learnt κs a r' s' → r ≡ r'
+follows-settled κs a r s r' s' p q = one p q
 
 pub look-after-settled : (κs : _) (a : _) (r : _) (s : _) (r' : _) (s' : _) → look-after.Learnt κs a r s → look-after.Learnt κs a r' s' → r ≡ r'
 look-after-settled κs a r s r' s' p q = one p q
@@ -64,6 +65,9 @@ copy-row-settled κs a r s r' s' p q = one p q
 
 pub write-slot-settled : (κs : _) (a : _) (r : _) (s : _) (r' : _) (s' : _) → write-slot.Learnt κs a r s → write-slot.Learnt κs a r' s' → now (s .0) ≡ now (s' .0)
 write-slot-settled κs a r s r' s' p q = one p q
+
+pub copy-long-settled : (κs : _) (a : _) (r : _) (s : _) (r' : _) (s' : _) → copy-long.Learnt κs a r s → copy-long.Learnt κs a r' s' → now (s .0) ≡ now (s' .0)
+copy-long-settled κs a r s r' s' p q = one p q
 
 pub copy-slot-settled : (κs : _) (a : _) (r : _) (s : _) (r' : _) (s' : _) → copy-slot.Learnt κs a r s → copy-slot.Learnt κs a r' s' → now (s .0) ≡ now (s' .0)
 copy-slot-settled κs a r s r' s' p q = one p q

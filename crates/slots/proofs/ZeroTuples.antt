@@ -1,5 +1,5 @@
 -- Zero bytes where a tuple, or the three bytes after the depth, would stand. Assumes nothing.
-use mathlib.Core.Path.{_≡_, _∙_, sym, ap}
+use mathlib.Core.Path.{_≡_, refl, _∙_, sym, ap}
 use mathlib.Core.Bool.{Bool, true, false, _&&_}
 use Prim.Native.Nat.{ℕ, _+_, _-_, _%_, _<_, _≤_}
 use native.Mathlib.Omega.{arith}
@@ -26,11 +26,28 @@ zero24 s k h =
     ∙ zero-by (at32 s 0 % 16777216) (getD s 1 0) (at16 s 2)
     (λ e. omega (arith, k 1, k 2, k 3)) (λ e. omega (arith, k 1, k 2, k 3)) (λ e f. omega (arith, k 1, k 2, k 3))
 
--- at a turn: the answer a for n bytes from p on, and b for the next
-pub zeros-next : {a b : Bool} (s : Bytes) (p n : ℕ) → p + n < length s → a ≡ allZero (take n (drop p s)) → b ≡ eqb (getD s (p + n) 0) 0 → a && b ≡ allZero (take (n + 1) (drop p s))
-zeros-next s p n h e f = (λ i. e i && (f ∙ sym (zero8 s (p + n) h)) i) ∙ sym (every-split isZero s p n 1)
+swap : (a b x y : Bool) → ((a && b) && x) && y ≡ (a && x) && (b && y)
+swap false b x y = refl
+swap true true x y = refl
+swap true false true y = refl
+swap true false false y = refl
 
--- the answers a for the first n bytes from p on, and b for the last n of all, which begin at q
+-- n bytes from p on and the next
+zeros-next : (s : Bytes) (p n : ℕ) → p + n < length s → allZero (take n (drop p s)) && eqb (getD s (p + n) 0) 0 ≡ allZero (take (n + 1) (drop p s))
+zeros-next s p n h = (λ i. allZero (take n (drop p s)) && sym (zero8 s (p + n) h) i) ∙ sym (every-split isZero s p n 1)
+
+-- at a turn: the answer a for n bytes from p on and n from q on, and b with the next of the first
+pub zeros-both : {a b : Bool} (s : Bytes) (p q n : ℕ) → p + n < length s → q + n < length s →
+    a ≡ allZero (take n (drop p s)) && allZero (take n (drop q s)) → b ≡ a && eqb (getD s (p + n) 0) 0 →
+    b && eqb (getD s (q + n) 0) 0 ≡ allZero (take (n + 1) (drop p s)) && allZero (take (n + 1) (drop q s))
+zeros-both s p q n h g e f =
+    let x = eqb (getD s (p + n) 0) 0 in
+    let y = eqb (getD s (q + n) 0) 0 in
+    ap (λ (c : Bool). c && y) (f ∙ ap (λ (c : Bool). c && x) e)
+    ∙ swap (allZero (take n (drop p s))) (allZero (take n (drop q s))) x y
+    ∙ (λ i. zeros-next s p n h i && zeros-next s q n g i)
+
+-- the first n bytes from p on, and the last n of all, which begin at q, with the answers a and b
 module _ (s : Bytes) (p n q : ℕ) (h : q + n ≡ length s) (k : p ≤ q) (g : q ≤ p + n) where
   last-all : allZero (take n (drop q s)) ≡ allZero (drop q s)
   last-all = let l : length (drop q s) ≤ n = rw length-drop (omega arith) in ap allZero (take-all n (drop q s) l)
@@ -43,8 +60,8 @@ module _ (s : Bytes) (p n q : ℕ) (h : q + n ≡ length s) (k : p ≤ q) (g : q
       let later = and-1 (allZero (take (p + n - q) (drop q s))) (allZero (drop (q + (p + n - q)) s)) (every-rest isZero s q (p + n - q) ∙ sym f) in
       sym (sym (every-rest isZero s p n) ∙ (λ i. sym e i && (ap (λ (j : ℕ). allZero (drop j s)) (sym z) ∙ later) i))
 
-  pub zeros-ends : {a b : Bool} → a ≡ allZero (take n (drop p s)) → b ≡ allZero (take n (drop q s)) → a && b ≡ allZero (drop p s)
-  zeros-ends {a} {b} e f = ends-by a b e (f ∙ last-all)
+  pub zeros-ends : allZero (take n (drop p s)) && allZero (take n (drop q s)) ≡ allZero (drop p s)
+  zeros-ends = ends-by (allZero (take n (drop p s))) (allZero (take n (drop q s))) refl last-all
 
 -- n bytes at p, tested after all that follow them, of bytes that are tested from q on
 module _ (s : Bytes) (p n : ℕ) where

@@ -1,19 +1,18 @@
 // Slots as bytes: tuples and names read and compared where they stand, the check of a slot's layout, and a slot written.
 // Document 01, "Pages, logs, epochs"; the definitions are in specs/.
 ghost use mathlib.Core.Path.{_≡_};
-ghost use mathlib.Core.Bool.{true, _&&_, _||_};
+ghost use mathlib.Core.Bool.{true, false, _&&_};
 ghost use Prim.Native.Nat.{_+_, _-_, _*_, _%_, _≤_, _<_, min};
 ghost use mathlib.Core.List.{[], _∷_, _++_};
 ghost use lib.ListN.{length, take, drop, replicate};
-ghost use lib.Dec.{eqb, ltb};
+ghost use lib.Dec.{eqb};
 ghost use lib.IntN.{pos, negsuc};
-ghost use Rattle.names.specs.Ordering.{compareℕ, then, compareTuples, compareRows, isSame};
+ghost use Rattle.names.specs.Ordering.{compareℕ, then, compareTuples, compareRows, isLess, isSame};
 ghost use Rattle.names.specs.Names.{limit, rowOf, ordinary, ordinaryFrom, marker, isName, withinℤ};
-ghost use Rattle.numbers.specs.Lists.{every};
 ghost use Rattle.numbers.specs.Bytes.{signed, allZero, bytes32, put};
 ghost use Rattle.slots.specs.Tuples.{tupleAt, tuplesAt, rowAt, Lies, tupleSize, tupleBytes, rowBytes};
 ghost use Rattle.slots.specs.Slots.{headSize, sizeOver, nameOver, slotSize, depthOf, lineOf, slotBytes};
-ghost use Rattle.slots.specs.Looks.{inner, leads, headOver, seenAfter};
+ghost use Rattle.slots.specs.Looks.{leads, headOver, seenAfter};
 use names::LIMIT;
 use names::Name;
 use names::Order;
@@ -39,6 +38,15 @@ pub enum Seen {
     Rising,
 }
 
+// How many tuples are looked at or copied in one run, where there are a few and where there are many. Two runs of many are as long as a
+// name can be.
+const FEW: usize = 4;
+
+const MANY: usize = 8;
+
+// The words of four bytes of a run of many.
+const WORDS: usize = TUPLE * MANY / 4;
+
 // Where the line number stands in a slot, and node, sequence and offset in a tuple, after its position.
 const LINE: usize = 4;
 
@@ -47,6 +55,11 @@ const NODE: usize = 2;
 const SEQUENCE: usize = 4;
 
 const OFFSET: usize = 8;
+
+// Numbers of two bytes are below the first, and numbers of three below the second.
+const TWO_BYTES: u32 = 65536;
+
+const THREE_BYTES: u32 = 16777216;
 
 // "An ordinary tuple has position 1..65534"
 const LAST_POSITION: u32 = 65534;
@@ -212,6 +225,7 @@ fn same_tuples(a: &[u8], p: usize, b: &[u8], q: usize) -> bool
 fn alike(a: &[u8], p: usize, n: usize, b: &[u8], q: usize, m: usize) -> usize
     requires { ⌜ (p + tupleSize * n ≤ length (now a)) × (q + tupleSize * m ≤ length (now b)) ⌝ }
     ensures { λ r. ⌜ (r ≤ n) × (r ≤ m) × (tuplesAt (now (a .entry)) p r ≡ tuplesAt (now (b .entry)) q r) ⌝ }
+    ensures { λ r. ⌜ (r < n → r < m → isSame (compareTuples (tupleAt (now (a .entry)) (p + tupleSize * r)) (tupleAt (now (b .entry)) (q + tupleSize * r))) ≡ false) ⌝ }
 {
     let mut i: usize = 0;
     loop {
@@ -271,14 +285,14 @@ fn ordinary_at(s: &[u8], p: usize) -> bool
     ensures { λ r. ⌜ r ≡ ordinary (tupleAt (now (s .entry)) p) ⌝ }
 {
     let both = numbers::read_low32(s, p);
-    let position = both % 65536;
+    let position = both % TWO_BYTES;
     if position < 1 {
         return false;
     }
     if LAST_POSITION < position {
         return false;
     }
-    if both < 65536 {
+    if both < TWO_BYTES {
         return false;
     }
     offset_ok(numbers::read_u32(s, p + OFFSET))
@@ -312,56 +326,27 @@ pub fn marker_at(s: &[u8], p: usize) -> bool
     false
 }
 
-// A tuple that may stand within a name, before its last: an ordinary one or a marker.
-fn inner_at(s: &[u8], p: usize) -> bool
-    requires { ⌜ p + tupleSize ≤ length (now s) ⌝ }
-    ensures { λ r. ⌜ r ≡ (ordinary (tupleAt (now (s .entry)) p) || marker (tupleAt (now (s .entry)) p)) ⌝ }
-{
-    if ordinary_at(s, p) {
-        return true;
-    }
-    marker_at(s, p)
-}
-
-// The tuples from number i on of the n from p on may all stand within a name.
-fn inner_from(s: &[u8], p: usize, n: usize, i: usize) -> bool
-    requires { ⌜ p + tupleSize * n ≤ length (now s) ⌝ }
-    ensures { λ r. ⌜ r ≡ every inner (drop i (tuplesAt (now (s .entry)) p n)) ⌝ }
-{
-    let mut k: usize = i;
-    loop {
-        if n <= k {
-            break true;
-        }
-        if inner_at(s, p + TUPLE * k) {
-            k += 1;
-        } else {
-            break false;
-        }
-    }
-}
-
-// How many tuples from p on are known to begin a name, of which k were, once the first has been looked at: none where it is not ordinary.
-fn begun(s: &[u8], p: usize, k: usize) -> usize
-    requires { ⌜ (p + tupleSize ≤ length (now s)) × (leads (tuplesAt (now s) p k) ≡ true) ⌝ }
-    ensures { λ r. ⌜ (leads (tuplesAt (now (s .entry)) p r) ≡ true) × (ltb 0 r ≡ ordinary (tupleAt (now (s .entry)) p)) ⌝ }
-{
-    if 0 < k {
-        return k;
-    }
-    if ordinary_at(s, p) { 1 } else { 0 }
-}
-
-// The n tuples from p on, one at least, are such as a name begins with, where the first k are known to be.
+// The n tuples from p on are such as a name begins with, where the first k are known to be: the first is ordinary, and markers may stand
+// after it.
 fn leads_from(s: &[u8], p: usize, n: usize, k: usize) -> bool
-    requires { ⌜ (1 ≤ n) × (p + tupleSize * n ≤ length (now s)) × (leads (tuplesAt (now s) p k) ≡ true) ⌝ }
+    requires { ⌜ (p + tupleSize * n ≤ length (now s)) × (leads (tuplesAt (now s) p k) ≡ true) ⌝ }
     ensures { λ r. ⌜ r ≡ leads (tuplesAt (now (s .entry)) p n) ⌝ }
 {
-    let i = begun(s, p, k);
-    if i < 1 {
-        return false;
+    let mut i: usize = k;
+    loop {
+        if n <= i {
+            break true;
+        }
+        if ordinary_at(s, p + TUPLE * i) {} else {
+            if i < 1 {
+                break false;
+            }
+            if !marker_at(s, p + TUPLE * i) {
+                break false;
+            }
+        }
+        i += 1;
     }
-    inner_from(s, p, n, i)
 }
 
 // The n tuples from p on are a name, where the first k are known to begin one. The last is tested before the others, so that each tuple is
@@ -374,30 +359,36 @@ fn name_from(s: &[u8], p: usize, n: usize, k: usize) -> bool
     if !last_at(s, p + TUPLE * last) {
         return false;
     }
-    if last < 1 {
-        return true;
-    }
     leads_from(s, p, last, k)
 }
 
-// The n tuples from p on are a name, of which nothing is known: not by `name_from`, which so has one caller and is made part of the pass along
-// a page.
-pub fn name_at(s: &[u8], p: usize, n: usize) -> bool
-    requires { ⌜ (1 ≤ n) × (n ≤ limit) × (p + tupleSize * n ≤ length (now s)) ⌝ }
-    ensures { λ r. ⌜ r ≡ isName (tuplesAt (now (s .entry)) p n) ⌝ }
+// Of two rows whose first i tuples are equal, and no more, the first is below the second: "Names compare at the first tuple that differs; a
+// proper prefix is smaller".
+fn rises_at(a: &[u8], p: usize, n: usize, s: &[u8], q: usize, d: usize, i: usize) -> bool
+    requires { ⌜ (p + tupleSize * n ≤ length (now a)) × (q + tupleSize * d ≤ length (now s)) × (i ≤ n) × (i ≤ d) ⌝ }
+    requires { ⌜ (tuplesAt (now a) p i ≡ tuplesAt (now s) q i) × (i < n → i < d → isSame (compareTuples (tupleAt (now a) (p + tupleSize * i)) (tupleAt (now s) (q + tupleSize * i))) ≡ false) ⌝ }
+    ensures { λ r. ⌜ r ≡ isLess (compareRows (tuplesAt (now (a .entry)) p n) (tuplesAt (now (s .entry)) q d)) ⌝ }
 {
-    let last = n - 1;
-    if !last_at(s, p + TUPLE * last) {
+    if d <= i {
         return false;
     }
-    if last < 1 {
+    if n <= i {
         return true;
     }
-    if ordinary_at(s, p) {
-        inner_from(s, p, last, 1)
-    } else {
-        false
+    names::is_less(compare_tuples(a, p + TUPLE * i, s, q + TUPLE * i))
+}
+
+// The d tuples from q on are a name, above the n from p on, which begin one or are none: what the two share is looked at once.
+pub fn follows(a: &[u8], p: usize, n: usize, s: &[u8], q: usize, d: usize) -> bool
+    requires { ⌜ (p + tupleSize * n ≤ length (now a)) × (leads (tuplesAt (now a) p n) ≡ true) ⌝ }
+    requires { ⌜ (1 ≤ d) × (d ≤ limit) × (q + tupleSize * d ≤ length (now s)) ⌝ }
+    ensures { λ r. ⌜ r ≡ (isName (tuplesAt (now (s .entry)) q d) && isLess (compareRows (tuplesAt (now (a .entry)) p n) (tuplesAt (now (s .entry)) q d))) ⌝ }
+{
+    let i = alike(a, p, n, s, q, d);
+    if !name_from(s, q, d, i) {
+        return false;
     }
+    rises_at(a, p, n, s, q, d, i)
 }
 
 // The bytes of a tuple's place are zero. Everything is read before it is tested: the compiler then makes one test of both.
@@ -430,25 +421,26 @@ fn zero_up_to(s: &[u8], d: usize, k: usize) -> bool
     }
 }
 
-// The greater of two bytes, which is zero where both are.
-fn greater(a: u8, b: u8) -> u8
+// The bits of two bytes together, which are zero where both bytes are.
+fn either(a: u8, b: u8) -> u8
     ensures { λ r. ⌜ eqb r 0 ≡ (eqb a 0 && eqb b 0) ⌝ }
 {
-    if a < b { b } else { a }
+    a | b
 }
 
-// The n bytes from p on are zero: so is the greatest of them, for which the compiler takes many bytes at a time.
-fn zero_run(s: &[u8], p: usize, n: usize) -> bool
-    requires { ⌜ p + n ≤ length (now s) ⌝ }
-    ensures { λ r. ⌜ r ≡ allZero (take n (drop p (now (s .entry)))) ⌝ }
+// The n bytes from p on and the n from q on are zero: so are their bits together, for which the compiler takes many bytes at a time, and makes
+// one test of both runs.
+fn zero_runs(s: &[u8], p: usize, q: usize, n: usize) -> bool
+    requires { ⌜ (p + n ≤ length (now s)) × (q + n ≤ length (now s)) ⌝ }
+    ensures { λ r. ⌜ r ≡ (allZero (take n (drop p (now (s .entry)))) && allZero (take n (drop q (now (s .entry))))) ⌝ }
 {
-    let mut top: u8 = 0;
+    let mut all: u8 = 0;
     let mut i: usize = 0;
     while i < n {
-        top = greater(top, s[p + i]);
+        all = either(either(all, s[p + i]), s[q + i]);
         i += 1;
     }
-    top == 0
+    all == 0
 }
 
 // The tuples of a slot with room for so many are zero from d on: the first n of them and the last n, which may be the same in part.
@@ -456,9 +448,7 @@ fn zero_ends(s: &[u8], d: usize, room: usize, n: usize) -> bool
     requires { ⌜ (length (now s) ≡ sizeOver room) × (d + n ≤ room) × (room ≤ d + 2 * n) ⌝ }
     ensures { λ r. ⌜ r ≡ allZero (drop (headSize + tupleSize * d) (now (s .entry))) ⌝ }
 {
-    let first = zero_run(s, HEAD + TUPLE * d, TUPLE * n);
-    let second = zero_run(s, HEAD + TUPLE * (room - n), TUPLE * n);
-    if first { second } else { false }
+    zero_runs(s, HEAD + TUPLE * d, HEAD + TUPLE * (room - n), TUPLE * n)
 }
 
 // The tuples of a slot with room for so many are zero from d on: a few one by one, more in two runs of four or of eight, whose lengths the
@@ -467,13 +457,13 @@ fn zero_after(s: &[u8], d: usize, room: usize) -> bool
     requires { ⌜ (length (now s) ≡ sizeOver room) × (d ≤ room) × (room ≤ limit) ⌝ }
     ensures { λ r. ⌜ r ≡ allZero (drop (headSize + tupleSize * d) (now (s .entry))) ⌝ }
 {
-    if room - d < 4 {
+    if room - d < FEW {
         return zero_up_to(s, d, room);
     }
-    if room - d < 8 {
-        return zero_ends(s, d, room, 4);
+    if room - d < MANY {
+        return zero_ends(s, d, room, FEW);
     }
-    zero_ends(s, d, room, 8)
+    zero_ends(s, d, room, MANY)
 }
 
 // "depth 1..8, three zero bytes", with so many tuples for eight.
@@ -488,7 +478,7 @@ fn head_ok(s: &[u8], room: usize) -> bool
     if room < d {
         return false;
     }
-    numbers::read_u32(s, 0) % 16777216 == 0
+    numbers::read_u32(s, 0) % THREE_BYTES == 0
 }
 
 // "depth 1..8, three zero bytes, line number (u32, any value, repeats allowed), then eight tuples of 12 bytes, the first depth of them
@@ -523,7 +513,7 @@ pub fn write_tuple(out: &mut [u8], p: usize, t: Tuple)
     requires { ⌜ p + tupleSize ≤ length (now out) ⌝ }
     ensures { λ _. ⌜ now (out .exit) ≡ put (now (out .entry)) p (tupleBytes t) ⌝ }
 {
-    numbers::write_u32(out, p, (t.position as u32) * 65536 + (t.node as u32));
+    numbers::write_u32(out, p, (t.position as u32) * TWO_BYTES + (t.node as u32));
     numbers::write_u32(out, p + SEQUENCE, t.sequence);
     numbers::write_u32(out, p + OFFSET, numbers::to_unsigned(t.offset));
 }
@@ -579,21 +569,92 @@ fn copy_two(out: &mut [u8], p: usize, s: &[u8], at: usize)
     write_three(out, p + TUPLE, u, v, w);
 }
 
-// The n tuples that stand from `at` on in s, written from p on in out: copied as bytes, so that no name is held, two tuples at a time and then
-// the last of an odd number.
+// The bytes of four tuples.
+fn copy_four(out: &mut [u8], p: usize, s: &[u8], at: usize)
+    requires { ⌜ (p + 4 * tupleSize ≤ length (now out)) × (at + 4 * tupleSize ≤ length (now s)) ⌝ }
+    ensures { λ _. ⌜ now (out .exit) ≡ put (now (out .entry)) p (take (4 * tupleSize) (drop at (now (s .entry)))) ⌝ }
+{
+    let a = numbers::read_u32(s, at);
+    let b = numbers::read_u32(s, at + 4);
+    let c = numbers::read_u32(s, at + 8);
+    let d = numbers::read_u32(s, at + 12);
+    let e = numbers::read_u32(s, at + 16);
+    let f = numbers::read_u32(s, at + 20);
+    let g = numbers::read_u32(s, at + 24);
+    let h = numbers::read_u32(s, at + 28);
+    let i = numbers::read_u32(s, at + 32);
+    let j = numbers::read_u32(s, at + 36);
+    let k = numbers::read_u32(s, at + 40);
+    let l = numbers::read_u32(s, at + 44);
+    write_three(out, p, a, b, c);
+    write_three(out, p + TUPLE, d, e, f);
+    write_three(out, p + TUPLE * 2, g, h, i);
+    write_three(out, p + TUPLE * 3, j, k, l);
+}
+
+// All bytes of src, written from p on: four tuples' bytes at a time as long as there are so many left. This is for many slots at once; the compiler
+// makes fewer steps of it than of single bytes.
+pub fn copy_long(out: &mut [u8], p: usize, src: &[u8])
+    requires { ⌜ p + length (now src) ≤ length (now out) ⌝ }
+    ensures { λ _. ⌜ now (out .exit) ≡ put (now (out .entry)) p (now (src .entry)) ⌝ }
+{
+    let mut i: usize = 0;
+    while FEW * TUPLE <= src.len() - i {
+        copy_four(out, p + i, src, i);
+        i += FEW * TUPLE;
+    }
+    numbers::copy(out, p + i, &src[i..]);
+}
+
+// The bytes of n tuples, four to eight: the first four and the last four, which may be the same in part.
+fn copy_ends(out: &mut [u8], p: usize, s: &[u8], at: usize, n: usize)
+    requires { ⌜ (4 ≤ n) × (n ≤ 8) × (p + tupleSize * n ≤ length (now out)) × (at + tupleSize * n ≤ length (now s)) ⌝ }
+    ensures { λ _. ⌜ now (out .exit) ≡ put (now (out .entry)) p (take (tupleSize * n) (drop at (now (s .entry)))) ⌝ }
+{
+    copy_four(out, p, s, at);
+    copy_four(out, p + TUPLE * (n - FEW), s, at + TUPLE * (n - FEW));
+}
+
+// The n tuples that stand from `at` on in s, written from p on in out: copied as bytes, so that no name is held. What is copied does not go by
+// how many there are but by one of four sizes, once from the first tuple on and once up to the last: names of many depths then take the
+// same way.
 pub fn copy_row(out: &mut [u8], p: usize, s: &[u8], at: usize, n: usize)
-    requires { ⌜ (p + tupleSize * n ≤ length (now out)) × (at + tupleSize * n ≤ length (now s)) ⌝ }
+    requires { ⌜ (n ≤ limit) × (p + tupleSize * n ≤ length (now out)) × (at + tupleSize * n ≤ length (now s)) ⌝ }
     ensures { λ _. ⌜ now (out .exit) ≡ put (now (out .entry)) p (rowBytes (tuplesAt (now (s .entry)) at n)) ⌝ }
 {
-    let mut k: usize = 0;
-    while 2 <= n - k {
-        copy_two(out, p + TUPLE * k, s, at + TUPLE * k);
-        k += 2;
-    }
-    if n <= k {
+    if n < 1 {
         return;
     }
-    copy_one(out, p + TUPLE * k, s, at + TUPLE * k);
+    if n < 2 {
+        copy_one(out, p, s, at);
+        return;
+    }
+    if n < FEW {
+        copy_two(out, p, s, at);
+        copy_two(out, p + TUPLE * (n - 2), s, at + TUPLE * (n - 2));
+        return;
+    }
+    if n < MANY {
+        copy_ends(out, p, s, at, n);
+        return;
+    }
+    copy_ends(out, p, s, at, MANY);
+    copy_ends(
+        out,
+        p + TUPLE * (n - MANY),
+        s,
+        at + TUPLE * (n - MANY),
+        MANY,
+    );
+}
+
+// The n tuples that stand from `at` on in s, fewer than a run of many, and zeros after them to the end of that run.
+fn copy_few(out: &mut [u8], p: usize, s: &[u8], at: usize, n: usize)
+    requires { ⌜ (n < 8) × (p + tupleSize * 8 ≤ length (now out)) × (at + tupleSize * n ≤ length (now s)) ⌝ }
+    ensures { λ _. ⌜ now (out .exit) ≡ put (now (out .entry)) p (rowBytes (tuplesAt (now (s .entry)) at n) ++ replicate (tupleSize * (8 - n)) 0) ⌝ }
+{
+    numbers::write_zeros(out, p, WORDS);
+    copy_row(out, p, s, at, n);
 }
 
 // What stands before the d tuples of a slot: their number, "three zero bytes, line number".
@@ -601,7 +662,7 @@ pub fn write_head(out: &mut [u8], p: usize, d: usize, line: u32)
     requires { ⌜ (p + headSize ≤ length (now out)) × (d ≤ limit) ⌝ }
     ensures { λ _. ⌜ now (out .exit) ≡ put (now (out .entry)) p ((d ∷ 0 ∷ 0 ∷ 0 ∷ []) ++ bytes32 line) ⌝ }
 {
-    numbers::write_u32(out, p, (d as u32) * 16777216);
+    numbers::write_u32(out, p, (d as u32) * THREE_BYTES);
     numbers::write_u32(out, p + LINE, line);
 }
 
@@ -624,12 +685,16 @@ pub fn write_slot(out: &mut [u8], p: usize, line: u32, a: Name)
     write_rest(out, p, d);
 }
 
-// A slot from p on, of a name that stands in other bytes.
+// A slot from p on, of a name that stands in other bytes. What is zero is written first, in runs of one length, and the tuples over it.
 pub fn copy_slot(out: &mut [u8], p: usize, line: u32, s: &[u8], name: Span)
     requires { ⌜ (p + slotSize ≤ length (now out)) × Lies (now s) name ⌝ }
     ensures { λ _. ⌜ now (out .exit) ≡ put (now (out .entry)) p (slotBytes (record { line = line; name = rowAt (now (s .entry)) name })) ⌝ }
 {
     write_head(out, p, name.count, line);
-    copy_row(out, p + HEAD, s, name.at, name.count);
-    write_rest(out, p, name.count);
+    numbers::write_zeros(out, p + HEAD + TUPLE * MANY, WORDS);
+    if name.count < MANY {
+        copy_few(out, p + HEAD, s, name.at, name.count);
+    } else {
+        copy_row(out, p + HEAD, s, name.at, name.count);
+    }
 }

@@ -1,11 +1,9 @@
 -- `edits::insert` meets its contract. Assumes nothing.
-use mathlib.Core.Path.{_∙_, sym, ap}
+use mathlib.Core.Path.{_∙_, sym}
 use denote.Ref.{now}
-use Rattle.slots.specs.Slots.{nameOf}
-use Rattle.pages.specs.Pages.{namesOf}
-use Rattle.pages.specs.Places.{placeOf}
+use Rattle.slots.proofs.RoundTrip.{kept}
 use Rattle.answers.proofs.Outcomes.{refused}
-use Rattle.edits.proofs.Outcomes.{found, insert-refused, insert-present}
+use Rattle.edits.proofs.Outcomes.{checked, insert-refused, insert-present}
 use borrow.Author.Needs.{needs}
 use Rattle.edits.proofs.insert.Statement.{statement}
 use Rattle.edits.proofs.insert.Tie as tie
@@ -18,42 +16,48 @@ enum-known-r c = search needs
 
 returns : tie.Need-returns
 returns c =
-    let s : tie.Start = search needs in
-    let k : tie.After-check-edit = search needs in
     let x : tie.After-r = search needs in
-    let page = now (s .args .page) in
-    let slot = now (s .args .slot) in
-    refused _ _ _ (insert-refused page slot _ (placeOf (nameOf slot) (namesOf page)) _ (sym (k .check-edit .ensures) ∙ x .r .given .1))
-
-enum-known-place : tie.Need-enum-known-place
-enum-known-place c = search needs
+    let k : tie.After-check-edit = search needs in
+    let s : tie.Start = search needs in
+    refused _ _ _ (insert-refused (now (s .args .page)) (now (s .args .slot)) _ _ (sym (k .check-edit .ensures) ∙ x .r .given .1))
 
 enum-told : tie.Need-enum-told
 enum-told c = search needs
 
-enum-known-place-2 : tie.Need-enum-known-place-2
-enum-known-place-2 c = search needs
+find-requires : tie.Need-find-requires
+find-requires c κs =
+    let k : tie.After-check-edit = search needs in
+    let s : tie.Start = search needs in
+    let slot = now (s .args .slot) in
+    let p = checked (now (s .args .page)) slot (sym (k .check-edit .ensures) ∙ c .enum-told .given .1) in
+    (kept slot (p .1 .0) .long, p .1 .1 .0)
+
+enum-told-2 : tie.Need-enum-told-2
+enum-told-2 c = search needs
+
+enum-known-k : tie.Need-enum-known-k
+enum-known-k c = search needs
 
 insert-at-requires : tie.Need-insert-at-requires
 insert-at-requires c κs =
-    let s : tie.Start = search needs in
+    let y : tie.After-k = search needs in
+    let f : tie.After-find = search needs in
+    let x : tie.After-enum-told = search needs in
     let k : tie.After-check-edit = search needs in
-    let x : tie.After-place = search needs in
-    let y : tie.After-place2 = search needs in
-    let page = now (s .args .page) in
-    let slot = now (s .args .slot) in
-    let f = found page slot (placeOf (nameOf slot) (namesOf page)) _ (sym (k .check-edit .ensures) ∙ x .place .given .1) in
-    ((f .0 .0, f .0 .1 .0, f .0 .1 .1 .0), f .1 ∙ y .place2 .given .1)
+    let s : tie.Start = search needs in
+    let p = checked (now (s .args .page)) (now (s .args .slot)) (sym (k .check-edit .ensures) ∙ x .enum-told .given .1) in
+    ((p .0, p .1 .0, p .1 .1 .0), sym (f .find .ensures) ∙ y .k .given .1)
 
 returns-2 : tie.Need-returns-2
 returns-2 c =
-    let s : tie.Start = search needs in
+    let f : tie.After-find = search needs in
+    let x : tie.After-enum-told = search needs in
     let k : tie.After-check-edit = search needs in
-    let x : tie.After-place = search needs in
+    let s : tie.Start = search needs in
     let page = now (s .args .page) in
     let slot = now (s .args .slot) in
-    let f = found page slot (placeOf (nameOf slot) (namesOf page)) _ (sym (k .check-edit .ensures) ∙ x .place .given .1) in
-    refused _ _ _ (insert-present page slot _ _ (f .0) (f .1 ∙ c .enum-told .given .1))
+    let p = checked page slot (sym (k .check-edit .ensures) ∙ x .enum-told .given .1) in
+    refused _ _ _ (insert-present page slot _ _ p (sym (f .find .ensures) ∙ c .enum-told2 .given .1))
 
 same-length : tie.Need-same-length
 same-length c = search needs
@@ -68,9 +72,10 @@ insert-spec =
     check-edit-requires
     enum-known-r
     returns
-    enum-known-place
     enum-told
-    enum-known-place-2
+    find-requires
+    enum-told-2
+    enum-known-k
     insert-at-requires
     returns-2
     same-length

@@ -16,40 +16,40 @@ use Rattle.edits.proofs.write_with.Tie as tie
 mul-p : tie.Need-mul-p
 mul-p c = search needs
 
+slice-aggregate-copy-long : tie.Need-slice-aggregate-copy-long
+slice-aggregate-copy-long c =
+    let start : tie.Start = search needs in
+    sym (length-take-le (slotSize * start .args .k) (now (start .args .page)) (start .pre .0))
+
+copy-long-requires : tie.Need-copy-long-requires
+copy-long-requires c κs =
+    let start : tie.Start = search needs in
+    omega (arith, length-take (slotSize * start .args .k) (now (start .args .page)))
+
 slice-aggregate-copy : tie.Need-slice-aggregate-copy
 slice-aggregate-copy c =
     let start : tie.Start = search needs in
-    sym (length-take-le (slotSize * start .args .k) (now (start .args .page)) (start .pre .0))
+    sym (length-take-le slotSize (now (start .args .slot)) (omega (arith, start .pre .1)))
 
 copy-requires : tie.Need-copy-requires
 copy-requires c κs =
     let start : tie.Start = search needs in
-    omega (arith, length-take (slotSize * start .args .k) (now (start .args .page)))
-
-slice-aggregate-copy-2 : tie.Need-slice-aggregate-copy-2
-slice-aggregate-copy-2 c =
-    let start : tie.Start = search needs in
-    sym (length-take-le slotSize (now (start .args .slot)) (omega (arith, start .pre .1)))
-
-copy-requires-2 : tie.Need-copy-requires-2
-copy-requires-2 c κs =
-    let start : tie.Start = search needs in
     omega (arith, length-take slotSize (now (start .args .slot)))
 
-add-copy : tie.Need-add-copy
-add-copy c = search needs
+add-copy-long : tie.Need-add-copy-long
+add-copy-long c = search needs
 
-sub-copy : tie.Need-sub-copy
-sub-copy c = search needs
+sub-copy-long : tie.Need-sub-copy-long
+sub-copy-long c = search needs
 
-part-copy-start : tie.Need-part-copy-start
-part-copy-start c = search needs
+part-copy-long-start : tie.Need-part-copy-long-start
+part-copy-long-start c = search needs
 
-part-copy-end : tie.Need-part-copy-end
-part-copy-end c = search needs
+part-copy-long-end : tie.Need-part-copy-long-end
+part-copy-long-end c = search needs
 
-copy-requires-3 : tie.Need-copy-requires-3
-copy-requires-3 c κs = search needs
+copy-long-requires-2 : tie.Need-copy-long-requires-2
+copy-long-requires-2 c κs = search needs
 
 same-length : tie.Need-same-length
 same-length c = search needs
@@ -57,9 +57,9 @@ same-length c = search needs
 returns : tie.Need-returns
 returns c =
     let start : tie.Start = search needs in
+    let after-copy-long : tie.After-copy-long = search needs in
     let after-copy : tie.After-copy = search needs in
-    let after-copy2 : tie.After-copy2 = search needs in
-    let after-copy3 : tie.After-copy3 = search needs in
+    let after-copy-long2 : tie.After-copy-long2 = search needs in
     let o = now (start .args .out) in
     let s = now (start .args .page) in
     let x = now (start .args .slot) in
@@ -70,22 +70,22 @@ returns c =
     let r : p + slotSize ≡ 0 + length (take p s ++ x) = omega (arith, l, a, start .pre .1) in
     let t : take (length s - p) (drop p s) ≡ drop p s = take-all (length s - p) (drop p s) (omega (arith, length-drop p s)) in
     let u : take slotSize x ≡ x = take-all slotSize x (omega (arith, start .pre .1)) in
-    let d₁ = put-more o 0 (omega arith) (take p s) x (after-copy .copy .ensures) q (after-copy2 .copy2 .ensures ∙ ap (put (after-copy .copy .last .0) p) u) in
-    put-more o 0 (omega arith) (take p s ++ x) (drop p s) d₁ r (after-copy3 .copy3 .ensures ∙ ap (λ (w : Bytes). put (after-copy2 .copy2 .last .0) (p + slotSize) w) t)
+    let d₁ = put-more o 0 (omega arith) (take p s) x (after-copy-long .copy-long .ensures) q (after-copy .copy .ensures ∙ ap (put (after-copy-long .copy-long .last .0) p) u) in
+    put-more o 0 (omega arith) (take p s ++ x) (drop p s) d₁ r (after-copy-long2 .copy-long2 .ensures ∙ ap (λ (w : Bytes). put (after-copy .copy .last .0) (p + slotSize) w) t)
 
 pub write-with-spec : {M : Type 1} → statement M
 write-with-spec =
     tie.close
     (tie.spec
     mul-p
+    slice-aggregate-copy-long
+    copy-long-requires
     slice-aggregate-copy
     copy-requires
-    slice-aggregate-copy-2
-    copy-requires-2
-    add-copy
-    sub-copy
-    part-copy-start
-    part-copy-end
-    copy-requires-3
+    add-copy-long
+    sub-copy-long
+    part-copy-long-start
+    part-copy-long-end
+    copy-long-requires-2
     same-length
     returns)

@@ -18,27 +18,27 @@ mul-p c = search needs
 add-q : tie.Need-add-q
 add-q c = search needs
 
-slice-aggregate-copy : tie.Need-slice-aggregate-copy
-slice-aggregate-copy c =
+slice-aggregate-copy-long : tie.Need-slice-aggregate-copy-long
+slice-aggregate-copy-long c =
     let start : tie.Start = search needs in
     sym (length-take-le (slotSize * start .args .k) (now (start .args .page)) (omega arith))
 
-copy-requires : tie.Need-copy-requires
-copy-requires c κs =
+copy-long-requires : tie.Need-copy-long-requires
+copy-long-requires c κs =
     let start : tie.Start = search needs in
     omega (arith, length-take (slotSize * start .args .k) (now (start .args .page)))
 
-sub-copy : tie.Need-sub-copy
-sub-copy c = search needs
+sub-copy-long : tie.Need-sub-copy-long
+sub-copy-long c = search needs
 
-part-copy-start : tie.Need-part-copy-start
-part-copy-start c = search needs
+part-copy-long-start : tie.Need-part-copy-long-start
+part-copy-long-start c = search needs
 
-part-copy-end : tie.Need-part-copy-end
-part-copy-end c = search needs
+part-copy-long-end : tie.Need-part-copy-long-end
+part-copy-long-end c = search needs
 
-copy-requires-2 : tie.Need-copy-requires-2
-copy-requires-2 c κs = search needs
+copy-long-requires-2 : tie.Need-copy-long-requires-2
+copy-long-requires-2 c κs = search needs
 
 same-length : tie.Need-same-length
 same-length c = search needs
@@ -46,8 +46,8 @@ same-length c = search needs
 returns : tie.Need-returns
 returns c =
     let start : tie.Start = search needs in
-    let after-copy : tie.After-copy = search needs in
-    let after-copy2 : tie.After-copy2 = search needs in
+    let after-copy-long : tie.After-copy-long = search needs in
+    let after-copy-long2 : tie.After-copy-long2 = search needs in
     let o = now (start .args .out) in
     let s = now (start .args .page) in
     let p = slotSize * start .args .k in
@@ -55,8 +55,8 @@ returns c =
     let q : p ≡ 0 + length (take p s) = omega (arith, l) in
     let d = drop (p + slotSize) s in
     let t : take (length s - (p + slotSize)) d ≡ d = take-all (length s - (p + slotSize)) d (omega (arith, length-drop (p + slotSize) s)) in
-    let f = after-copy2 .copy2 .ensures ∙ ap (λ (w : Bytes). put (after-copy .copy .last .0) p w) t in
-    put-more o 0 (omega arith) (take p s) d (after-copy .copy .ensures) q f
+    let f = after-copy-long2 .copy-long2 .ensures ∙ ap (λ (w : Bytes). put (after-copy-long .copy-long .last .0) p w) t in
+    put-more o 0 (omega arith) (take p s) d (after-copy-long .copy-long .ensures) q f
 
 pub write-without-spec : {M : Type 1} → statement M
 write-without-spec =
@@ -64,11 +64,11 @@ write-without-spec =
     (tie.spec
     mul-p
     add-q
-    slice-aggregate-copy
-    copy-requires
-    sub-copy
-    part-copy-start
-    part-copy-end
-    copy-requires-2
+    slice-aggregate-copy-long
+    copy-long-requires
+    sub-copy-long
+    part-copy-long-start
+    part-copy-long-end
+    copy-long-requires-2
     same-length
     returns)

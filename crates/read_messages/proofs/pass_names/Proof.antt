@@ -1,15 +1,22 @@
 -- `read_messages::pass_names` meets its contract. Assumes nothing.
 use mathlib.Core.Path.{_≡_, refl, _∙_, sym, ap, subst}
-use Prim.Native.Nat.{ℕ, _+_, _-_, _<_}
+use mathlib.Core.Bool.{true}
+use Prim.Native.Nat.{ℕ, _+_, _-_, _*_, _/_, _<_}
 use native.Mathlib.Omega.{arith}
 use denote.Ref.{now}
 use lib.ListN.{drop}
 use borrow.Author.Tests.{not-true, not-false}
+use Rattle.numbers.specs.Bytes.{Bytes}
 use Rattle.numbers.proofs.Bools.{yes-no}
-use Rattle.messages.specs.Messages.{namesWithin, afterNames}
-use Rattle.read_messages.proofs.AtCursor.{name-long}
+use Rattle.slots.specs.declared.Span.{Span}
+use Rattle.slots.specs.Tuples.{tupleSize, tuplesAt, rowAt, Within}
+use Rattle.fields.specs.Fields.{fieldHead, sizeIn}
+use Rattle.messages.specs.Messages.{nameStands, tuplesIn, namesWithin, afterNames}
 use Rattle.messages.proofs.NameFields.{names-stop, after-stop}
-use Rattle.read_messages.proofs.FirstPassNames.{Passing, passing-first, passing-end, passing-unfit, passing-falls, passing-on}
+use Rattle.read_messages.specs.FirstPass.{fieldIn}
+use Rattle.read_messages.specs.declared.NameField.the-variants.{Tuples}
+use Rattle.read_messages.proofs.AtCursor.{tuples-at, name-long, name-whole, field-tuples, field-nothing}
+use Rattle.read_messages.proofs.FirstPassNames.{Passing, passing-first, passing-end, passing-stops, passing-on}
 use borrow.Author.Needs.{needs}
 use Rattle.read_messages.proofs.pass_names.Statement.{statement}
 use Rattle.read_messages.proofs.pass_names.Tie as tie
@@ -20,38 +27,78 @@ Inv-loop message most last₀ names₀ at₀ last names at = Passing message at�
 abbrev μ-loop : tie.MeasureT-loop
 μ-loop message most last₀ names₀ at₀ last names at = most - names
 
+-- a name's field of n tuples was found at p: where the tuples stand, and where the field ends
+record Found (s : Bytes) (p n : ℕ) : Type 0 where
+  stood : nameStands (drop p s) ≡ true
+  within : Within s (record { at = p + fieldHead; count = n })
+  is : rowAt s (record { at = p + fieldHead; count = n }) ≡ tuplesIn (drop p s)
+  end : p + fieldHead + tupleSize * n ≡ p + (fieldHead + sizeIn (drop p s))
+
+found : (s : Bytes) (p n : ℕ) → fieldIn (drop p s) ≡ Tuples n → Found s p n
+found s p n e =
+    let t = drop p s in
+    let f = field-tuples t n e in
+    let w = name-whole t (f .0) in
+    let l = name-long s p (f .0) in
+    let q : tupleSize * n ≡ sizeIn t = ap (λ (k : ℕ). tupleSize * k) (sym (f .1)) ∙ w in
+    record {
+      stood = f .0;
+      within = omega arith;
+      is = ap (tuplesAt s (p + fieldHead)) (sym (f .1)) ∙ tuples-at s p (sizeIn t) refl;
+      end = omega arith;
+    }
+
 loop-holds : tie.Need-loop-holds Inv-loop μ-loop
 loop-holds c =
     let start : tie.Start Inv-loop μ-loop = search needs in
     passing-first (now (start .args .message)) (start .args .cursor .at) (start .args .most) (start .pre)
 
-name-stands-requires : tie.Need-name-stands-requires Inv-loop μ-loop
-name-stands-requires c κs =
+name-field-requires : tie.Need-name-field-requires Inv-loop μ-loop
+name-field-requires c κs =
     let here : tie.At-loop Inv-loop μ-loop = search needs in
     here .loop .inv .within
 
-span-in-requires : tie.Need-span-in-requires Inv-loop μ-loop
-span-in-requires c κs =
-    let stood : tie.After-name-stands Inv-loop μ-loop = search needs in
-    sym (stood .name-stands .ensures) ∙ not-false (stood .name-stands .result) (c .if2 .left)
+enum-known-n : tie.Need-enum-known-n Inv-loop μ-loop
+enum-known-n c = search needs
 
-name-fits-requires : tie.Need-name-fits-requires Inv-loop μ-loop
-name-fits-requires c κs = c .span-in .ensures .0
+enum-told : tie.Need-enum-told Inv-loop μ-loop
+enum-told c = search needs
 
-rises-requires : tie.Need-rises-requires Inv-loop μ-loop
-rises-requires c κs =
-    let name : tie.After-span-in Inv-loop μ-loop = search needs in
+add-at : tie.Need-add-at Inv-loop μ-loop
+add-at c =
+    let told : tie.After-n Inv-loop μ-loop = search needs in
+    let field : tie.After-name-field Inv-loop μ-loop = search needs in
     let here : tie.At-loop Inv-loop μ-loop = search needs in
-    (here .loop .inv .room, name .span-in .ensures .0)
-
-after-field-requires : tie.Need-after-field-requires Inv-loop μ-loop
-after-field-requires c κs =
     let start : tie.Start Inv-loop μ-loop = search needs in
+    let f = found (now (start .args .message)) (here .loop .at) (told .n .given .0 .0) (sym (field .name-field .ensures) ∙ told .n .given .1) in
+    omega (arith, f .within)
+
+name-follows-requires : tie.Need-name-follows-requires Inv-loop μ-loop
+name-follows-requires c κs =
+    let told : tie.After-n Inv-loop μ-loop = search needs in
+    let field : tie.After-name-field Inv-loop μ-loop = search needs in
     let here : tie.At-loop Inv-loop μ-loop = search needs in
-    let stood : tie.After-name-stands Inv-loop μ-loop = search needs in
-    let else2 : tie.Else2 Inv-loop μ-loop = search needs in
-    let e = sym (stood .name-stands .ensures) ∙ not-false (stood .name-stands .result) (else2 .if2 .left) in
-    name-long (now (start .args .message)) (here .loop .at) e
+    let start : tie.Start Inv-loop μ-loop = search needs in
+    let f = found (now (start .args .message)) (here .loop .at) (told .n .given .0 .0) (sym (field .name-field .ensures) ∙ told .n .given .1) in
+    (here .loop .inv .room, here .loop .inv .begins, f .within)
+
+mul-at : tie.Need-mul-at Inv-loop μ-loop
+mul-at c =
+    let told : tie.After-n Inv-loop μ-loop = search needs in
+    let field : tie.After-name-field Inv-loop μ-loop = search needs in
+    let here : tie.At-loop Inv-loop μ-loop = search needs in
+    let start : tie.Start Inv-loop μ-loop = search needs in
+    let f = found (now (start .args .message)) (here .loop .at) (told .n .given .0 .0) (sym (field .name-field .ensures) ∙ told .n .given .1) in
+    omega (arith, f .within)
+
+add-at-2 : tie.Need-add-at-2 Inv-loop μ-loop
+add-at-2 c =
+    let told : tie.After-n Inv-loop μ-loop = search needs in
+    let field : tie.After-name-field Inv-loop μ-loop = search needs in
+    let here : tie.At-loop Inv-loop μ-loop = search needs in
+    let start : tie.Start Inv-loop μ-loop = search needs in
+    let f = found (now (start .args .message)) (here .loop .at) (told .n .given .0 .0) (sym (field .name-field .ensures) ∙ told .n .given .1) in
+    omega (arith, f .within)
 
 add-names : tie.Need-add-names Inv-loop μ-loop
 add-names c = omega arith
@@ -61,24 +108,23 @@ loop-less c = omega arith
 
 loop-again : tie.Need-loop-again Inv-loop μ-loop
 loop-again c =
-    let start : tie.Start Inv-loop μ-loop = search needs in
-    let here : tie.At-loop Inv-loop μ-loop = search needs in
-    let stood : tie.After-name-stands Inv-loop μ-loop = search needs in
     let else2 : tie.Else2 Inv-loop μ-loop = search needs in
-    let name : tie.After-span-in Inv-loop μ-loop = search needs in
-    let fit : tie.After-name-fits Inv-loop μ-loop = search needs in
-    let else3 : tie.Else3 Inv-loop μ-loop = search needs in
-    let above : tie.After-rises Inv-loop μ-loop = search needs in
-    let else4 : tie.Else4 Inv-loop μ-loop = search needs in
+    let above : tie.After-name-follows Inv-loop μ-loop = search needs in
+    let told : tie.After-n Inv-loop μ-loop = search needs in
+    let field : tie.After-name-field Inv-loop μ-loop = search needs in
+    let here : tie.At-loop Inv-loop μ-loop = search needs in
+    let start : tie.Start Inv-loop μ-loop = search needs in
+    let s = now (start .args .message) in
+    let p = here .loop .at in
+    let n = told .n .given .0 .0 in
     let k = here .loop .names in
     let m = start .args .most in
-    let a = name .span-in .result in
+    let f = found s p n (sym (field .name-field .ensures) ∙ told .n .given .1) in
+    let a : Span = record { at = p + fieldHead; count = n } in
     let h : k < m = omega arith in
-    let e = sym (stood .name-stands .ensures) ∙ not-false (stood .name-stands .result) (else2 .if2 .left) in
-    let f = sym (fit .name-fits .ensures) ∙ not-false (fit .name-fits .result) (else3 .if3 .left) in
-    let g = sym (above .rises .ensures) ∙ not-false (above .rises .result) (else4 .if4 .left) in
-    let v = passing-on (here .loop .inv) h e a (name .span-in .ensures .1) (name .span-in .ensures .0) f g in
-    subst (λ (n : ℕ). Passing (now (start .args .message)) (start .args .cursor .at) m a n (k + 1)) (sym (c .after-field .ensures)) v
+    let g = sym (above .name-follows .ensures) ∙ not-false (above .name-follows .result) (else2 .if2 .left) in
+    let v = passing-on (here .loop .inv) h (f .stood) a (f .is) (f .within) g in
+    subst (λ (q : ℕ). Passing s (start .args .cursor .at) m a q (k + 1)) (sym (f .end)) v
 
 returns : tie.Need-returns Inv-loop μ-loop
 returns c =
@@ -94,38 +140,26 @@ returns-2 : tie.Need-returns-2 Inv-loop μ-loop
 returns-2 c =
     let start : tie.Start Inv-loop μ-loop = search needs in
     let here : tie.At-loop Inv-loop μ-loop = search needs in
-    let stood : tie.After-name-stands Inv-loop μ-loop = search needs in
+    let field : tie.After-name-field Inv-loop μ-loop = search needs in
     let t = drop (here .loop .at) (now (start .args .message)) in
     let m = start .args .most - here .loop .names in
-    let e = sym (stood .name-stands .ensures) ∙ not-true (stood .name-stands .result) (c .if2 .taken) in
+    let e = field-nothing t (sym (field .name-field .ensures) ∙ c .enum-told .given .1) in
     let w = passing-end (here .loop .inv) (names-stop t e m) (after-stop t e m) in
     (w .0, λ e. (w .1, w .2, w .3))
 
 returns-3 : tie.Need-returns-3 Inv-loop μ-loop
 returns-3 c =
-    let start : tie.Start Inv-loop μ-loop = search needs in
+    let above : tie.After-name-follows Inv-loop μ-loop = search needs in
+    let told : tie.After-n Inv-loop μ-loop = search needs in
+    let field : tie.After-name-field Inv-loop μ-loop = search needs in
     let here : tie.At-loop Inv-loop μ-loop = search needs in
-    let stood : tie.After-name-stands Inv-loop μ-loop = search needs in
-    let else2 : tie.Else2 Inv-loop μ-loop = search needs in
-    let name : tie.After-span-in Inv-loop μ-loop = search needs in
-    let fit : tie.After-name-fits Inv-loop μ-loop = search needs in
-    let h : here .loop .names < start .args .most = omega arith in
-    let e = sym (stood .name-stands .ensures) ∙ not-false (stood .name-stands .result) (else2 .if2 .left) in
-    let f = sym (fit .name-fits .ensures) ∙ not-true (fit .name-fits .result) (c .if3 .taken) in
-    (passing-unfit (here .loop .inv) h e (name .span-in .result) (name .span-in .ensures .1) f, λ q. yes-no q refl)
-
-returns-4 : tie.Need-returns-4 Inv-loop μ-loop
-returns-4 c =
     let start : tie.Start Inv-loop μ-loop = search needs in
-    let here : tie.At-loop Inv-loop μ-loop = search needs in
-    let stood : tie.After-name-stands Inv-loop μ-loop = search needs in
-    let else2 : tie.Else2 Inv-loop μ-loop = search needs in
-    let name : tie.After-span-in Inv-loop μ-loop = search needs in
-    let above : tie.After-rises Inv-loop μ-loop = search needs in
+    let p = here .loop .at in
+    let n = told .n .given .0 .0 in
+    let f = found (now (start .args .message)) p n (sym (field .name-field .ensures) ∙ told .n .given .1) in
     let h : here .loop .names < start .args .most = omega arith in
-    let e = sym (stood .name-stands .ensures) ∙ not-false (stood .name-stands .result) (else2 .if2 .left) in
-    let g = sym (above .rises .ensures) ∙ not-true (above .rises .result) (c .if4 .taken) in
-    (passing-falls (here .loop .inv) h e (name .span-in .result) (name .span-in .ensures .1) g, λ q. yes-no q refl)
+    let g = sym (above .name-follows .ensures) ∙ not-true (above .name-follows .result) (c .if2 .taken) in
+    (passing-stops (here .loop .inv) h (f .stood) (record { at = p + fieldHead; count = n }) (f .is) g, λ q. yes-no q refl)
 
 pub pass-names-spec : {M : Type 1} → statement M
 pass-names-spec =
@@ -134,15 +168,16 @@ pass-names-spec =
     Inv-loop
     μ-loop
     loop-holds
-    name-stands-requires
-    span-in-requires
-    name-fits-requires
-    rises-requires
-    after-field-requires
+    name-field-requires
+    enum-known-n
+    enum-told
+    add-at
+    name-follows-requires
+    mul-at
+    add-at-2
     add-names
     loop-less
     loop-again
     returns
     returns-2
-    returns-3
-    returns-4)
+    returns-3)

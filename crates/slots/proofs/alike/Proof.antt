@@ -50,17 +50,18 @@ loop-again c =
 returns : tie.Need-returns Inv-loop μ-loop
 returns c =
     let at-loop : tie.At-loop Inv-loop μ-loop = search needs in
-    at-loop .loop .inv
+    (at-loop .loop .inv, λ h g. absurd (omega arith))
 
 returns-2 : tie.Need-returns-2 Inv-loop μ-loop
 returns-2 c =
     let at-loop : tie.At-loop Inv-loop μ-loop = search needs in
-    at-loop .loop .inv
+    (at-loop .loop .inv, λ h g. absurd (omega arith))
 
 returns-3 : tie.Need-returns-3 Inv-loop μ-loop
 returns-3 c =
+    let after-same-tuples : tie.After-same-tuples Inv-loop μ-loop = search needs in
     let at-loop : tie.At-loop Inv-loop μ-loop = search needs in
-    at-loop .loop .inv
+    (at-loop .loop .inv, λ h g. sym (after-same-tuples .same-tuples .ensures) ∙ c .if3 .left)
 
 pub alike-spec : {M : Type 1} → statement M
 alike-spec =

@@ -1,10 +1,10 @@
 -- `slots::copy_one` meets its contract. Assumes nothing.
-use mathlib.Core.Path.{ap, _∙_}
-use mathlib.Core.List.{_++_}
+use mathlib.Core.Path.{refl, ap, _∙_}
+use Prim.Native.Nat.{_+_}
 use native.Mathlib.Omega.{arith}
 use denote.Ref.{now}
 use borrow.Author.Needs.{needs}
-use Rattle.numbers.specs.Bytes.{bytes32, put}
+use Rattle.numbers.specs.Bytes.{put}
 use Rattle.slots.proofs.CopiedTuples.{three-words}
 use Rattle.slots.proofs.copy_one.Statement.{statement}
 use Rattle.slots.proofs.copy_one.Tie as tie
@@ -39,12 +39,10 @@ returns c =
     let known : tie.After-shared-slice-known = search needs in
     let start : tie.Start = search needs in
     let s = now (start .args .s) in
-    let words = three-words s (λ i. omega (arith, known .shared-slice-known .given i)) (start .args .at) (start .pre .1) in
-    let first = x .read-u32 .ensures in
-    let second = y .read-u322 .ensures in
-    let third = z .read-u323 .ensures in
+    let at = start .args .at in
+    let words = three-words s (λ i. omega (arith, known .shared-slice-known .given i)) at (at + 4) (at + 8) (start .pre .1) refl refl in
     wrote .write-three .ensures
-    ∙ ap (put (now (start .args .out)) (start .args .p)) ((λ i. bytes32 (first i) ++ bytes32 (second i) ++ bytes32 (third i)) ∙ words)
+    ∙ ap (put (now (start .args .out)) (start .args .p)) (words (x .read-u32 .ensures) (y .read-u322 .ensures) (z .read-u323 .ensures))
 
 pub copy-one-spec : {M : Type 1} → statement M
 copy-one-spec =

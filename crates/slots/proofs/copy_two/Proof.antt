@@ -1,11 +1,10 @@
 -- `slots::copy_two` meets its contract. Assumes nothing.
-use mathlib.Core.Path.{_≡_, ap, _∙_}
-use mathlib.Core.List.{_++_}
+use mathlib.Core.Path.{refl, ap, _∙_}
 use Prim.Native.Nat.{_+_}
 use native.Mathlib.Omega.{arith}
 use denote.Ref.{now}
 use borrow.Author.Needs.{needs}
-use Rattle.numbers.specs.Bytes.{at32, bytes32, put}
+use Rattle.numbers.specs.Bytes.{Octets, put}
 use Rattle.slots.specs.Tuples.{tupleSize}
 use Rattle.slots.proofs.CopiedTuples.{three-words, copied-on}
 use Rattle.slots.proofs.copy_two.Statement.{statement}
@@ -72,19 +71,13 @@ returns c =
     let p = start .args .p in
     let s = now (start .args .s) in
     let at = start .args .at in
-    let first = x .read-u32 .ensures in
-    let second = y .read-u322 .ensures in
-    let third = z .read-u323 .ensures in
-    let fourth = u .read-u324 .ensures in
-    let fifth = v .read-u325 .ensures ∙ ap (at32 s) (let e : at + 16 ≡ at + tupleSize + 4 = omega arith in e) in
-    let sixth = w .read-u326 .ensures ∙ ap (at32 s) (let e : at + 20 ≡ at + tupleSize + 8 = omega arith in e) in
-    let words = three-words s (λ i. omega (arith, known .shared-slice-known .given i)) in
-    let one = (λ i. bytes32 (first i) ++ bytes32 (second i) ++ bytes32 (third i)) ∙ words at (omega arith) in
-    let two = (λ i. bytes32 (fourth i) ++ bytes32 (fifth i) ++ bytes32 (sixth i)) ∙ words (at + tupleSize) (omega arith) in
+    let octets : Octets s = λ i. omega (arith, known .shared-slice-known .given i) in
+    let one = three-words s octets at (at + 4) (at + 8) (omega arith) refl refl (x .read-u32 .ensures) (y .read-u322 .ensures) (z .read-u323 .ensures) in
+    let two = three-words s octets (at + 12) (at + 16) (at + 20) (omega arith) (omega arith) (omega arith) (u .read-u324 .ensures) (v .read-u325 .ensures) (w .read-u326 .ensures) in
     let d = wrote .write-three .last .0 in
     copied-on o s p at tupleSize tupleSize (omega arith) (omega arith)
     (wrote .write-three .ensures ∙ ap (put o p) one)
-    (wrote2 .write-three2 .ensures ∙ ap (put d (p + tupleSize)) two)
+    (wrote2 .write-three2 .ensures ∙ ap (put d (p + 12)) two)
 
 pub copy-two-spec : {M : Type 1} → statement M
 copy-two-spec =

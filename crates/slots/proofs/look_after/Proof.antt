@@ -44,8 +44,8 @@ name-from-requires c κs =
     let head = sym (after-head-ok .head-ok .ensures) ∙ not-false (after-head-ok .head-ok .result) (else1 .if1 .left) in
     let k = deep room s head in
     let i = after-alike .alike .result in
-    let known = leads-fewer a headSize i (start .args .n) (after-alike .alike .ensures .0) (start .pre .1 .1) in
-    (omega arith, omega arith, omega arith, ap leads (sym (after-alike .alike .ensures .2)) ∙ known)
+    let known = leads-fewer a headSize i (start .args .n) (after-alike .alike .ensures .0 .0) (start .pre .1 .1) in
+    (omega arith, omega arith, omega arith, ap leads (sym (after-alike .alike .ensures .0 .2)) ∙ known)
 
 returns-2 : tie.Need-returns-2
 returns-2 c =
@@ -125,7 +125,7 @@ returns-4 c =
     let i = after-alike .alike .result in
     let order =
     after-compare-rows .compare-rows .ensures
-    ∙ alike-compare (now (start .args .a)) headSize s headSize i (after-alike .alike .ensures .2) (start .args .n) d (after-alike .alike .ensures .0) (after-alike .alike .ensures .1)
+    ∙ alike-compare (now (start .args .a)) headSize s headSize i (after-alike .alike .ensures .0 .2) (start .args .n) d (after-alike .alike .ensures .0 .0) (after-alike .alike .ensures .0 .1)
     ∙ ap (compareRows a) (name-over room s d (after-depth-over .depth-over .ensures)) in
     let rises = sym (c .if4 .taken) ∙ after-is-less .is-less .ensures ∙ ap isLess order in
     λ j. seen (keeps j) (rises j)
@@ -154,7 +154,7 @@ returns-5 c =
     let i = after-alike .alike .result in
     let order =
     after-compare-rows .compare-rows .ensures
-    ∙ alike-compare (now (start .args .a)) headSize s headSize i (after-alike .alike .ensures .2) (start .args .n) d (after-alike .alike .ensures .0) (after-alike .alike .ensures .1)
+    ∙ alike-compare (now (start .args .a)) headSize s headSize i (after-alike .alike .ensures .0 .2) (start .args .n) d (after-alike .alike .ensures .0 .0) (after-alike .alike .ensures .0 .1)
     ∙ ap (compareRows a) (name-over room s d (after-depth-over .depth-over .ensures)) in
     let rises = sym (c .if4 .left) ∙ after-is-less .is-less .ensures ∙ ap isLess order in
     λ j. seen (keeps j) (rises j)

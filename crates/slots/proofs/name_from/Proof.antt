@@ -1,7 +1,7 @@
 -- `slots::name_from` meets its contract. Assumes nothing.
-use mathlib.Core.Path.{_≡_, refl, _∙_, sym, ap}
+use mathlib.Core.Path.{refl, _∙_, sym}
 use mathlib.Core.Bool.{and-true, and-false}
-use Prim.Native.Nat.{ℕ, _-_}
+use Prim.Native.Nat.{_-_}
 use native.Mathlib.Omega.{arith}
 use borrow.Author.Tests.{not-true, not-false}
 use denote.Ref.{now}
@@ -34,23 +34,11 @@ returns c =
     let last = sym (not-true (after-last-at .last-at .result) (c .if1 .taken)) ∙ after-last-at .last-at .ensures in
     sym (and-false (leads (tuplesAt s p (n - 1)))) ∙ name-by s p n (omega arith) refl last
 
-returns-2 : tie.Need-returns-2
-returns-2 c =
-    let else1 : tie.Else1 = search needs in
-    let after-last-at : tie.After-last-at = search needs in
-    let start : tie.Start = search needs in
-    let s = now (start .args .s) in
-    let p = start .args .p in
-    let n = start .args .n in
-    let last = sym (not-false (after-last-at .last-at .result) (else1 .if1 .left)) ∙ after-last-at .last-at .ensures in
-    let none : 0 ≡ n - 1 = omega arith in
-    name-by s p n (omega arith) (ap (λ (k : ℕ). leads (tuplesAt s p k)) none) last
-
 leads-from-requires : tie.Need-leads-from-requires
 leads-from-requires c κs = search needs
 
-returns-3 : tie.Need-returns-3
-returns-3 c =
+returns-2 : tie.Need-returns-2
+returns-2 c =
     let else1 : tie.Else1 = search needs in
     let after-last-at : tie.After-last-at = search needs in
     let start : tie.Start = search needs in
@@ -66,6 +54,5 @@ name-from-spec =
     add-last-at
     last-at-requires
     returns
-    returns-2
     leads-from-requires
-    returns-3)
+    returns-2)

@@ -34,7 +34,7 @@ copy-row-requires c κs =
     let start : tie.Start = search needs in
     let l = field-size (now (start .args .s)) (start .args .name) in
     let k = after-write-field-head .write-field-head .kept .0 in
-    (omega arith, start .pre .0 .0)
+    (start .pre .0 .1, omega arith, start .pre .0 .0)
 
 add-result : tie.Need-add-result
 add-result c = search needs
