@@ -133,7 +133,7 @@ uint64_t kadalumbir_new_name(const uint8_t *page, size_t page_len, size_t gap, u
 
 /* Writes the page as the rename of the log by the author (node, sequence) makes it: the log's k-th name becomes one
  * tuple with offset k, and other names change so that the order stays. A name gains at most one tuple.
- * Refuses 1, 2, 3, 4, 5, 6, 8. Stack: 300 bytes. */
+ * Refuses 1, 2, 3, 4, 5, 6, 8. Stack: 260 bytes. */
 uint64_t kadalumbir_rename(const uint8_t *page, size_t page_len, const uint8_t *log, size_t log_len, uint16_t node,
                            uint32_t sequence, uint8_t *out, size_t out_len);
 

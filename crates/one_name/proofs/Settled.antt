@@ -7,14 +7,18 @@ use denote.Ref.{now}
 use Rattle.numbers.proofs.Settled.{one}
 use Rattle.slots.specs.Tuples.{rowAt}
 use Rattle.pages.specs.Pages.{namesOf}
-use Rattle.one_name.specs.Backs.{shaped}
+use Rattle.one_name.specs.Backs.{shaped, single}
 use Rattle.one_name.proofs.is_unmarked.Reads as is-unmarked
-use Rattle.one_name.proofs.log_unmarked.Reads as log-unmarked
+use Rattle.one_name.proofs.all_unmarked.Reads as all-unmarked
+use Rattle.one_name.proofs.deepest.Reads as deepest
+use Rattle.one_name.proofs.case_at.Reads as case-at
 use Rattle.one_name.proofs.walk.Reads as walk
 use Rattle.one_name.proofs.gains.Reads as gains
 use Rattle.one_name.proofs.change_of.Reads as change-of
 use Rattle.one_name.proofs.without.Reads as without
 use Rattle.one_name.proofs.back_of.Reads as back-of
+use Rattle.one_name.proofs.is_alone.Reads as is-alone
+use Rattle.one_name.proofs.alone_of.Reads as alone-of
 use Rattle.one_name.proofs.rename_name.Reads as rename-name
 use Rattle.one_name.proofs.take_back_name.Reads as take-back-name
 
@@ -24,8 +28,14 @@ SameGiven r r' = (r .fits ≡ r' .fits) × (rowOf (r .name) ≡ rowOf (r' .name)
 pub is-unmarked-settled : (κs : _) (a : _) (r : _) (s : _) (r' : _) (s' : _) → is-unmarked.Learnt κs a r s → is-unmarked.Learnt κs a r' s' → r ≡ r'
 is-unmarked-settled κs a r s r' s' p q = one p q
 
-pub log-unmarked-settled : (κs : _) (a : _) (r : _) (s : _) (r' : _) (s' : _) → log-unmarked.Learnt κs a r s → log-unmarked.Learnt κs a r' s' → r ≡ r'
-log-unmarked-settled κs a r s r' s' p q = one p q
+pub all-unmarked-settled : (κs : _) (a : _) (r : _) (s : _) (r' : _) (s' : _) → all-unmarked.Learnt κs a r s → all-unmarked.Learnt κs a r' s' → r ≡ r'
+all-unmarked-settled κs a r s r' s' p q = one p q
+
+pub deepest-settled : (κs : _) (a : _) (r : _) (s : _) (r' : _) (s' : _) → deepest.Learnt κs a r s → deepest.Learnt κs a r' s' → r ≡ r'
+deepest-settled κs a r s r' s' p q = one (p .0) (q .0)
+
+pub case-at-settled : (κs : _) (a : _) (r : _) (s : _) (r' : _) (s' : _) → case-at.Learnt κs a r s → case-at.Learnt κs a r' s' → r ≡ r'
+case-at-settled κs a r s r' s' p q = one p q
 
 pub walk-settled : (κs : _) (a : _) (r : _) (s : _) (r' : _) (s' : _) → walk.Learnt κs a r s → walk.Learnt κs a r' s' → (r .below ≡ r' .below) × (r .case ≡ r' .case)
 walk-settled κs a r s r' s' p q = (one (p .0) (q .0), one (p .1) (q .1))
@@ -44,6 +54,13 @@ without-settled κs a r s r' s' p q = one (p .1) (q .1)
 pub back-of-settled : (κs : _) (a : _) (r : _) (s : _) (r' : _) (s' : _) → back-of.Learnt κs a r s → back-of.Learnt κs a r' s' →
     shaped (rowAt (now (a .1 .1 .0)) (a .1 .1 .1 .0)) (namesOf (now (a .0))) r ≡ shaped (rowAt (now (a .1 .1 .0)) (a .1 .1 .1 .0)) (namesOf (now (a .0))) r'
 back-of-settled κs a r s r' s' p q = one (p .1) (q .1)
+
+pub is-alone-settled : (κs : _) (a : _) (r : _) (s : _) (r' : _) (s' : _) → is-alone.Learnt κs a r s → is-alone.Learnt κs a r' s' → r ≡ r'
+is-alone-settled κs a r s r' s' p q = one p q
+
+pub alone-of-settled : (κs : _) (a : _) (r : _) (s : _) (r' : _) (s' : _) → alone-of.Learnt κs a r s → alone-of.Learnt κs a r' s' →
+    shaped (rowAt (now (a .1 .1 .0)) (a .1 .1 .1 .0)) (namesOf (now (a .0))) (single r) ≡ shaped (rowAt (now (a .1 .1 .0)) (a .1 .1 .1 .0)) (namesOf (now (a .0))) (single r')
+alone-of-settled κs a r s r' s' p q = one (p .1) (q .1)
 
 pub rename-name-settled : (κs : _) (a : _) (r : _) (s : _) (r' : _) (s' : _) → rename-name.Learnt κs a r s → rename-name.Learnt κs a r' s' → SameGiven r r'
 rename-name-settled κs a r s r' s' p q = (one (p .0) (q .0), one (p .1) (q .1))

@@ -3,20 +3,21 @@
 ghost use mathlib.Core.Path.{_≡_};
 ghost use mathlib.Core.List.{[], _∷_, _++_};
 ghost use mathlib.Core.Bool.{true};
-ghost use Prim.Native.Nat.{_+_, _-_, _*_, _≤_, _<_};
+ghost use Prim.Native.Nat.{_+_, _-_, _*_, _≤_, _<_, max};
 ghost use lib.IntN.{pos};
 ghost use lib.ListN.{length, take, drop, getD};
 ghost use lib.Signed.{nonNeg};
 ghost use Rattle.names.specs.Ordering.{compareRows, isLess, isSame, _≤ⁿ_};
 ghost use Rattle.names.specs.Names.{limit, rowOf, isName, oneBelow, Gives, m, M};
 ghost use Rattle.slots.specs.Tuples.{tupleSize, rowAt, Lies};
-ghost use Rattle.pages.specs.Pages.{maxSlots, namesOf, rises, isLog};
+ghost use Rattle.pages.specs.Pages.{maxSlots, namesOf, rises, keepsLayout, isLog};
 ghost use Rattle.pages.specs.Places.{below, placeOf};
 ghost use Rattle.name_renames.specs.Renaming.{firstPosition, lead as leadTuple, N, caseOf, ifBelow, rename as renameRow, under as underRow, over as overRow, backBetween, stripBelow, stripAbove, takeBack as takeBackRow};
+ghost use Rattle.name_renames.specs.Alone.{isAbove, inGap, aloneWithin, alone as isAlone};
 ghost use Rattle.numbers.specs.Lists.{every};
 ghost use Rattle.one_name.specs.Markers.{unmarked};
 ghost use Rattle.one_name.specs.Changes.{indexOf, changeOf, changedBy, gains as gainsOne};
-ghost use Rattle.one_name.specs.Backs.{shaped, Stands, Means};
+ghost use Rattle.one_name.specs.Backs.{shaped, Stands, Means, single, deepestOf};
 use name_renames::Case;
 use names::Author;
 use names::Joined;
@@ -85,16 +86,17 @@ fn whole(x: Name) -> Joined
 
 // ── end markers ──
 
-// No end marker is in a name that stands in s.
+// No end marker is in a name that stands in s. "The first and last tuples are ordinary .. and markers may stand only between": only the tuples
+// between are looked at.
 pub fn is_unmarked(s: &[u8], x: Span) -> bool
-    requires { ⌜ Lies (now s) x ⌝ }
+    requires { ⌜ Lies (now s) x × (isName (rowAt (now s) x) ≡ true) ⌝ }
     ensures { λ r. ⌜ r ≡ unmarked (rowAt (now (s .entry)) x) ⌝ }
 {
     let n = x.count;
     let p = x.at;
-    let mut i: usize = 0;
+    let mut i: usize = 1;
     loop {
-        if n <= i {
+        if n <= i + 1 {
             break true;
         }
         if slots::marker_at(s, p + TUPLE * i) {
@@ -104,19 +106,46 @@ pub fn is_unmarked(s: &[u8], x: Span) -> bool
     }
 }
 
-// No end marker is in a name of the log.
-pub fn log_unmarked(log: &[u8]) -> bool
-    ensures { λ r. ⌜ r ≡ every unmarked (namesOf (now (log .entry))) ⌝ }
+// No end marker is in a name of the page, or of the log.
+pub fn all_unmarked(page: &[u8]) -> bool
+    requires { ⌜ keepsLayout (now page) ≡ true ⌝ }
+    ensures { λ r. ⌜ r ≡ every unmarked (namesOf (now (page .entry))) ⌝ }
 {
-    let n = log.len() / SLOT;
+    let n = page.len() / SLOT;
     let mut k: usize = 0;
     loop {
         if n <= k {
             break true;
         }
-        if !is_unmarked(log, pages::span_of(log, k)) {
+        if !is_unmarked(page, pages::span_of(page, k)) {
             break false;
         }
+        k += 1;
+    }
+}
+
+// ── depth ──
+
+// The greater of two numbers.
+fn greater(a: usize, b: usize) -> usize
+    ensures { λ r. ⌜ r ≡ max a b ⌝ }
+{
+    if a < b { b } else { a }
+}
+
+// The most tuples of a name of the page, or of the log.
+pub fn deepest(page: &[u8]) -> usize
+    ensures { λ r. ⌜ (r ≡ deepestOf (namesOf (now (page .entry)))) × (r ≤ limit) ⌝ }
+{
+    let n = page.len() / SLOT;
+    let mut most: usize = 0;
+    let mut k: usize = 0;
+    loop {
+        if n <= k {
+            break most;
+        }
+        let x = pages::span_of(page, k);
+        most = greater(most, x.count);
         k += 1;
     }
 }
@@ -148,7 +177,7 @@ fn case_above(p: u16, author: Author, k: usize, s: &[u8], x: Span) -> Case
 }
 
 // The case of 01's table for x, which stands in the log at that place.
-fn case_at(log: &[u8], author: Author, place: Place, s: &[u8], x: Span) -> Case
+pub fn case_at(log: &[u8], author: Author, place: Place, s: &[u8], x: Span) -> Case
     requires { ⌜ (isLog (now log) ≡ true) × Lies (now s) x × (place ≡ placeOf (rowAt (now s) x) (namesOf (now log))) ⌝ }
     ensures { λ r. ⌜ r ≡ caseOf (firstPosition (namesOf (now (log .entry)))) author (namesOf (now (log .entry))) (rowAt (now (s .entry)) x) ⌝ }
 {
@@ -442,6 +471,95 @@ pub fn back_of(log: &[u8], author: Author, s: &[u8], c: Span) -> Back
         return over(log, last, s, c, strip_above(p, author, last, s, c));
     }
     back_within(log, author, s, c)
+}
+
+// ── taking one name back: alone ──
+
+// t is above r(k) and below r(k+1).
+fn is_within(log: &[u8], k: usize, s: &[u8], t: Span) -> bool
+    requires { ⌜ (k + 1 < length (namesOf (now log))) × Lies (now s) t ⌝ }
+    ensures { λ r. ⌜ r ≡ inGap (namesOf (now (log .entry))) k (rowAt (now (s .entry)) t) ⌝ }
+{
+    match against(log, k, s, t) {
+        Order::Less => return false,
+        Order::Same => return false,
+        Order::More => {}
+    }
+    names::is_less(against(log, k + 1, s, t))
+}
+
+// "c = N(k), 0 ≤ k < n", or "c = N(k)·t" with t above r(k) and below r(k+1).
+fn alone_within(log: &[u8], author: Author, s: &[u8], c: Span) -> bool
+    requires { ⌜ (isLog (now log) ≡ true) × Lies (now s) c ⌝ }
+    requires { ⌜ (N (firstPosition (namesOf (now log))) author 0 ≤ⁿ rowAt (now s) c) × (rowAt (now s) c ≤ⁿ N (firstPosition (namesOf (now log))) author (length (namesOf (now log)) - 1)) ⌝ }
+    ensures { λ r. ⌜ r ≡ aloneWithin (namesOf (now (log .entry))) (rowAt (now (s .entry)) c) ⌝ }
+{
+    if c.count < 2 {
+        return true;
+    }
+    is_within(log, index_of(s, c), s, without(s, c, 1))
+}
+
+// A name that stands in s is above r(k).
+fn is_over(log: &[u8], k: usize, s: &[u8], v: Span) -> bool
+    requires { ⌜ Lies (now s) v ⌝ }
+    ensures { λ r. ⌜ r ≡ isAbove (rowAt (now (s .entry)) v) (getD (namesOf (now (log .entry))) k []) ⌝ }
+{
+    match against(log, k, s, v) {
+        Order::Less => false,
+        Order::Same => false,
+        Order::More => true,
+    }
+}
+
+// c, a name that stands in s, is taken back to a name of the log or to tuples of its own, and no marker is put. A book of which this holds
+// of every name needs neither 6 nor 7 to be looked for, and what becomes of its names is found with no further comparison (`alone_of`).
+pub fn is_alone(log: &[u8], author: Author, s: &[u8], c: Span) -> bool
+    requires { ⌜ (isLog (now log) ≡ true) × Lies (now s) c ⌝ }
+    ensures { λ r. ⌜ r ≡ isAlone author (namesOf (now (log .entry))) (rowAt (now (s .entry)) c) ⌝ }
+{
+    let p = first_position(log);
+    if is_below(s, c, lead(p, author, 0)) {
+        return names::is_less(against(log, 0, s, without(s, c, strip_below(p, author, s, c))));
+    }
+    let last = log.len() / SLOT - 1;
+    if is_above(s, c, numbered(p, author, last)) {
+        return is_over(
+            log,
+            last,
+            s,
+            without(s, c, strip_above(p, author, last, s, c)),
+        );
+    }
+    alone_within(log, author, s, c)
+}
+
+// What becomes of a name that is taken back alone: the first two shapes of `Back`. Nothing here is passed on to where names are joined, so that
+// it stays in registers.
+pub enum Single {
+    // r(k)
+    Logged(usize),
+    // v
+    Own(usize),
+}
+
+// What becomes of c, a name that stands in s, where it is known to be taken back alone: the log's names are not looked at.
+pub fn alone_of(log: &[u8], author: Author, s: &[u8], c: Span) -> Single
+    requires { ⌜ (isLog (now log) ≡ true) × Lies (now s) c × (isAlone author (namesOf (now log)) (rowAt (now s) c) ≡ true) ⌝ }
+    ensures { λ r. ⌜ Means (rowAt (now (s .entry)) c) (namesOf (now (log .entry))) (single r) (takeBackRow author (namesOf (now (log .entry))) (rowAt (now (s .entry)) c)) ⌝ }
+{
+    let p = first_position(log);
+    if is_below(s, c, lead(p, author, 0)) {
+        return Single::Own(strip_below(p, author, s, c));
+    }
+    let last = log.len() / SLOT - 1;
+    if is_above(s, c, numbered(p, author, last)) {
+        return Single::Own(strip_above(p, author, last, s, c));
+    }
+    if c.count < 2 {
+        return Single::Logged(index_of(s, c));
+    }
+    Single::Own(1)
 }
 
 // ── taking one name back ──

@@ -4,6 +4,8 @@ pub mod Carried
 pub mod SlotBySlot
 pub mod Books
 pub mod FirstRefusal
+pub mod AloneNames
+pub mod ClearBooks
 pub mod BackPairs
 pub mod LastRefusal
 pub mod Settled

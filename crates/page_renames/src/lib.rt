@@ -3,22 +3,22 @@
 ghost use mathlib.Core.Path.{_≡_};
 ghost use mathlib.Core.List.{[], flatten};
 ghost use mathlib.Core.Bool.{true, _&&_, _||_};
-ghost use Prim.Native.Nat.{_-_, _≤_, _<_};
-ghost use lib.Dec.{ltb};
+ghost use Prim.Native.Nat.{_+_, _-_, _*_, _/_, _≤_, _<_};
+ghost use lib.Dec.{leb, ltb};
 ghost use lib.ListN.{length, getD};
 ghost use Rattle.names.specs.Ordering.{compareRows, isLess};
-ghost use Rattle.names.specs.Names.{fits};
+ghost use Rattle.names.specs.Names.{limit, fits};
 ghost use Rattle.numbers.specs.Lists.{every};
 ghost use Rattle.numbers.specs.Bytes.{put};
-ghost use Rattle.slots.specs.Tuples.{rowAt, Lies};
-ghost use Rattle.slots.specs.Slots.{nameOf, keepsSlot};
-ghost use Rattle.pages.specs.Pages.{keepsLayout, slotsOf, namesOf, pieces, rises, isLog};
+ghost use Rattle.slots.specs.Slots.{slotSize, nameOf, slotOf, slotBytes, keepsSlot};
+ghost use Rattle.pages.specs.Pages.{keepsLayout, partsOf, slotsOf, namesOf, pieces, rises, isLog};
 ghost use Rattle.answers.specs.Answers.{ask, inOrder, leaves};
-ghost use Rattle.pages.specs.Places.{below};
 ghost use Rattle.name_renames.specs.Renaming.{rename as renameRow, takeBack as takeBackRow, fresh};
-ghost use Rattle.one_name.specs.Backs.{shaped};
+ghost use Rattle.name_renames.specs.Alone.{alone as isAlone};
+ghost use Rattle.one_name.specs.Backs.{shaped, deepestOf};
+ghost use Rattle.one_name.specs.Markers.{unmarked};
 ghost use Rattle.renamed_slots.specs.Ready.{Ready};
-ghost use Rattle.page_renames.specs.Renames.{carried, allFit, openingTests, renameTests, takeBackTests, renameOutcome, takeBackOutcome};
+ghost use Rattle.page_renames.specs.Renames.{carry, carried, allFit, openingTests, renameTests, takeBackTests, renameOutcome, takeBackOutcome};
 use answers::Answer;
 use answers::Refusal;
 use names::Author;
@@ -61,51 +61,37 @@ fn all_fresh(page: &[u8], author: Author) -> bool
     true
 }
 
-// Whether the name in a slot, renamed, has at most LIMIT tuples, and how many names of the log are known to be below it.
-struct Fit {
-    fits: bool,
-    below: usize,
-}
-
-// "a name gains at most one tuple", so only a name of LIMIT tuples is looked for in the log.
-fn renamed_fits(log: &[u8], author: Author, page: &[u8], x: Span, j: usize) -> Fit
-    requires { ⌜ (isLog (now log) ≡ true) × Lies (now page) x × (j ≤ below (rowAt (now page) x) (namesOf (now log))) ⌝ }
-    ensures { λ r. ⌜ (r .fits ≡ fits (renameRow author (namesOf (now (log .entry))) (rowAt (now (page .entry)) x))) × (r .below ≤ below (rowAt (now (page .entry)) x) (namesOf (now (log .entry)))) ⌝ }
+// The name in a slot, renamed, has at most LIMIT tuples. "a name gains at most one tuple", so only a name of LIMIT tuples is looked for in the
+// log, and found by halving: the walk along page and log has then one place, where it writes, and the compiler makes it part of that loop.
+fn renamed_fits(log: &[u8], author: Author, slot: &[u8]) -> bool
+    requires { ⌜ (isLog (now log) ≡ true) × (keepsSlot (now slot) ≡ true) ⌝ }
+    ensures { λ r. ⌜ r ≡ fits (renameRow author (namesOf (now (log .entry))) (nameOf (now (slot .entry)))) ⌝ }
 {
-    if x.count < LIMIT {
-        return Fit {
-            fits: true,
-            below: j,
-        };
+    let count = slots::depth(slot);
+    if count < LIMIT {
+        return true;
     }
-    let w = one_name::walk(log, author, page, x, j);
-    let case = w.case;
-    let gains = one_name::gains(one_name::change_of(log, author, case));
-    Fit {
-        fits: !gains,
-        below: w.below,
-    }
+    let place = pages::find(log, slot);
+    let case = one_name::case_at(log, author, place, slot, Span { at: HEAD, count });
+    !one_name::gains(one_name::change_of(log, author, case))
 }
 
-// Every name of the page, renamed, has at most LIMIT tuples. Page and log are walked side by side.
+// Every name of the page, renamed, has at most LIMIT tuples.
 fn all_renamed_fit(page: &[u8], log: &[u8], author: Author) -> bool
-    requires { ⌜ (rises (now page) ≡ true) × (isLog (now log) ≡ true) ⌝ }
+    requires { ⌜ (keepsLayout (now page) ≡ true) × (isLog (now log) ≡ true) ⌝ }
     ensures { λ r. ⌜ r ≡ allFit (renameRow author (namesOf (now (log .entry)))) (now (page .entry)) ⌝ }
 {
     let n = page.len() / SLOT;
     let mut i: usize = 0;
-    let mut j: usize = 0;
-    loop {
-        if n <= i {
-            break true;
+    while i < n {
+        let at = SLOT * i;
+        let end = at + SLOT;
+        if !renamed_fits(log, author, &page[at..end]) {
+            return false;
         }
-        let r = renamed_fits(log, author, page, pages::span_of(page, i), j);
-        if !r.fits {
-            break false;
-        }
-        j = r.below;
         i += 1;
     }
+    true
 }
 
 // ── writing ──
@@ -132,19 +118,35 @@ fn write_renamed(page: &[u8], log: &[u8], author: Author, out: &mut [u8])
     }
 }
 
+// Slot i of the page taken back, at its place in out. Where the name is known to be taken back alone, it is not compared with the log again.
+fn write_one_back(page: &[u8], log: &[u8], author: Author, alone: bool, i: usize, out: &mut [u8])
+    requires { ⌜ (keepsLayout (now page) ≡ true) × (isLog (now log) ≡ true) × (i < length (now page) / slotSize) × (length (now page) ≤ length (now out)) ⌝ }
+    requires { ⌜ (fits (takeBackRow author (namesOf (now log)) (getD (namesOf (now page)) i [])) ≡ true) × (alone ≡ true → isAlone author (namesOf (now log)) (getD (namesOf (now page)) i []) ≡ true) ⌝ }
+    ensures { λ _. ⌜ now (out .exit) ≡ put (now (out .entry)) (slotSize * i) (slotBytes (carry (takeBackRow author (namesOf (now (log .entry)))) (slotOf (getD (partsOf (now (page .entry))) i [])))) ⌝ }
+{
+    let at = SLOT * i;
+    let end = at + SLOT;
+    let c = pages::span_of(page, i);
+    if alone {
+        let single = one_name::alone_of(log, author, page, c);
+        renamed_slots::write_single(out, at, &page[at..end], log, single);
+    } else {
+        let back = one_name::back_of(log, author, page, c);
+        renamed_slots::write_back(out, at, &page[at..end], log, back);
+    }
+}
+
 // The page taken back, from the start of out.
-fn write_back(page: &[u8], log: &[u8], author: Author, out: &mut [u8])
+fn write_back(page: &[u8], log: &[u8], author: Author, alone: bool, out: &mut [u8])
     requires { ⌜ (keepsLayout (now page) ≡ true) × (isLog (now log) ≡ true) × (length (now page) ≤ length (now out)) ⌝ }
     requires { ⌜ allFit (takeBackRow author (namesOf (now log))) (now page) ≡ true ⌝ }
+    requires { ⌜ (alone ≡ true → every (isAlone author (namesOf (now log))) (namesOf (now page)) ≡ true) ⌝ }
     ensures { λ _. ⌜ now (out .exit) ≡ put (now (out .entry)) 0 (flatten (pieces (carried (takeBackRow author (namesOf (now (log .entry)))) (slotsOf (now (page .entry)))))) ⌝ }
 {
     let n = page.len() / SLOT;
     let mut i: usize = 0;
     while i < n {
-        let at = SLOT * i;
-        let end = at + SLOT;
-        let back = one_name::back_of(log, author, page, pages::span_of(page, i));
-        renamed_slots::write_back(out, at, &page[at..end], log, back);
+        write_one_back(page, log, author, alone, i, out);
         i += 1;
     }
 }
@@ -233,6 +235,7 @@ fn still_rises(
     pair_rises(page, log, plain, i, last, back)
 }
 
+// Both hold.
 fn both(a: bool, b: bool) -> bool
     ensures { λ r. ⌜ r ≡ (a && b) ⌝ }
 {
@@ -249,13 +252,13 @@ fn check_rising(rises: bool) -> Checked
     Checked::Passed
 }
 
-// 6, 7: one walk along the page, which keeps what became of the name before, and whether it and the log have no end marker.
+// 6, 7 of any page: one walk along it, which keeps what became of the name before, and whether it and the log have no end marker.
 fn check_back(page: &[u8], log: &[u8], author: Author) -> Checked
     requires { ⌜ inOrder (openingTests (now page) (now log) author) Checked.Refused Checked.Passed ≡ Checked.Passed ⌝ }
     ensures { λ r. ⌜ r ≡ inOrder (takeBackTests (now (page .entry)) (now (log .entry)) author) Checked.Refused Checked.Passed ⌝ }
 {
     let n = page.len() / SLOT;
-    let unmarked = one_name::log_unmarked(log);
+    let unmarked = one_name::all_unmarked(log);
     let mut last = Back::Own(0);
     let mut last_unmarked = unmarked;
     let mut rises = true;
@@ -278,6 +281,55 @@ fn check_back(page: &[u8], log: &[u8], author: Author) -> Checked
         last_unmarked = here_unmarked;
         i += 1;
     }
+}
+
+// Every name of the page is taken back alone: to a name of the log, or to tuples of its own.
+fn all_alone(page: &[u8], log: &[u8], author: Author) -> bool
+    requires { ⌜ isLog (now log) ≡ true ⌝ }
+    ensures { λ r. ⌜ r ≡ every (isAlone author (namesOf (now (log .entry)))) (namesOf (now (page .entry))) ⌝ }
+{
+    let n = page.len() / SLOT;
+    let mut i: usize = 0;
+    loop {
+        if n <= i {
+            break true;
+        }
+        if !one_name::is_alone(log, author, page, pages::span_of(page, i)) {
+            break false;
+        }
+        i += 1;
+    }
+}
+
+// No name of page and log has an end marker, and none is so deep that it could come to have more than LIMIT tuples.
+fn is_clear(page: &[u8], log: &[u8]) -> bool
+    requires { ⌜ (keepsLayout (now page) ≡ true) × (isLog (now log) ≡ true) ⌝ }
+    ensures { λ r. ⌜ r ≡ (leb (deepestOf (namesOf (now (log .entry))) + 1 + deepestOf (namesOf (now (page .entry)))) limit && every unmarked (namesOf (now (log .entry))) && every unmarked (namesOf (now (page .entry)))) ⌝ }
+{
+    if LIMIT < one_name::deepest(log) + 1 + one_name::deepest(page) {
+        return false;
+    }
+    if !one_name::all_unmarked(log) {
+        return false;
+    }
+    one_name::all_unmarked(page)
+}
+
+// 6, 7, where a theorem does not answer both for the whole page. If every name is taken back alone, each has at most LIMIT tuples and they rise, markers
+// or not: `alone-fits` and `alone-mono` (name_renames/proofs/Alone.antt; in specs/Laws.antt `alone-is` and `alone-kept`). If page and log are clear, so
+// it is by `back-depth` (name_renames/proofs/BackDepth.antt) and `takeBack-mono` (name_renames/proofs/Backward.antt; in specs/Laws.antt `order-kept`).
+fn check_names(page: &[u8], log: &[u8], author: Author, alone: bool) -> Checked
+    requires { ⌜ inOrder (openingTests (now page) (now log) author) Checked.Refused Checked.Passed ≡ Checked.Passed ⌝ }
+    requires { ⌜ (alone ≡ true → every (isAlone author (namesOf (now log))) (namesOf (now page)) ≡ true) ⌝ }
+    ensures { λ r. ⌜ r ≡ inOrder (takeBackTests (now (page .entry)) (now (log .entry)) author) Checked.Refused Checked.Passed ⌝ }
+{
+    if alone {
+        return Checked::Passed;
+    }
+    if is_clear(page, log) {
+        return Checked::Passed;
+    }
+    check_back(page, log, author)
 }
 
 // 5, 6, 8; else the page renamed. Nothing is written before every refusal is ruled out.
@@ -306,14 +358,15 @@ fn take_back_checked(page: &[u8], log: &[u8], author: Author, out: &mut [u8]) ->
     ensures { λ r. ⌜ r ≡ takeBackOutcome (now (page .entry)) (now (log .entry)) author (length (now (out .entry))) .answer ⌝ }
     ensures { λ r. ⌜ now (out .exit) ≡ leaves (takeBackOutcome (now (page .entry)) (now (log .entry)) author (length (now (out .entry)))) (now (out .entry)) ⌝ }
 {
-    let checked = check_back(page, log, author);
+    let alone = all_alone(page, log, author);
+    let checked = check_names(page, log, author, alone);
     match checked {
         Checked::Refused(r) => Answer::Refused(r),
         Checked::Passed => {
             if out.len() < page.len() {
                 return Answer::Refused(Refusal::Short);
             }
-            write_back(page, log, author, out);
+            write_back(page, log, author, alone, out);
             let taken_back = page.len() / SLOT;
             Answer::Accepted(taken_back)
         }

@@ -1,3 +1,4 @@
 pub mod CopiedTuples
+pub mod JoinedRows
 pub mod ReadTuples
 pub mod Settled

@@ -27,12 +27,6 @@ last-natural a e =
     let whole = take-all (length a) a (omega arith) in
     ap (λ (r : Row). nonNeg (getD a (length r - 1) m .offset)) (sym whole) ∙ last-from-zero a (length a) m (ap isName whole ∙ e)
 
-pub lowered-length : (a : Row) → length (oneBelow a) ≡ length a
-unfolding oneBelow
-lowered-length [] = refl
-lowered-length (t ∷ []) = refl
-lowered-length (t ∷ u ∷ a) = ap suc (lowered-length (u ∷ a))
-
 -- "that name with its last offset less 1": before the last tuple it is that name ..
 pub lowered-before : (a : Row) (i : ℕ) (d : Tuple) → i + 1 < length a → getD (oneBelow a) i d ≡ getD a i d
 unfolding oneBelow

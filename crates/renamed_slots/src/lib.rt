@@ -4,22 +4,23 @@
 ghost use mathlib.Core.Path.{_≡_};
 ghost use mathlib.Core.Bool.{true};
 ghost use mathlib.Core.List.{[], _∷_, _++_};
-ghost use Prim.Native.Nat.{_+_, _*_, _≤_, _<_};
-ghost use lib.ListN.{length, drop, getD};
+ghost use Prim.Native.Nat.{_+_, _-_, _≤_, _<_};
+ghost use lib.ListN.{length, take, drop, getD};
 ghost use Rattle.names.specs.Ordering.{compareℤ, compareTuples, compareRows, isLess};
 ghost use Rattle.names.specs.Names.{limit, fits, oneBelow, m, M};
 ghost use Rattle.numbers.specs.Bytes.{put};
-ghost use Rattle.slots.specs.Tuples.{tupleSize, rowAt, Lies, rowBytes};
+ghost use Rattle.slots.specs.Tuples.{rowAt, Lies};
 ghost use Rattle.slots.specs.Slots.{slotSize, depthOf, lineOf, nameOf, keepsSlot, slotBytes};
 ghost use Rattle.pages.specs.Pages.{namesOf, isLog};
 ghost use Rattle.one_name.specs.Changes.{changedBy};
-ghost use Rattle.one_name.specs.Backs.{shaped, Stands};
+ghost use Rattle.one_name.specs.Backs.{shaped, Stands, single as asBack};
 ghost use Rattle.renamed_slots.specs.Ready.{Ready};
 use names::LIMIT;
 use names::Order;
 use names::Tuple;
 use one_name::Back;
 use one_name::Change;
+use one_name::Single;
 use slots::HEAD;
 use slots::SLOT;
 use slots::Span;
@@ -260,28 +261,54 @@ fn write_own(out: &mut [u8], p: usize, slot: &[u8], cut: usize)
     }
 }
 
-// The tuples of the name taken back, from q on.
-fn write_tuples(out: &mut [u8], q: usize, slot: &[u8], log: &[u8], back: Back)
-    requires { ⌜ (q + tupleSize * length (shaped (nameOf (now slot)) (namesOf (now log)) back) ≤ length (now out)) × (keepsSlot (now slot) ≡ true) × (isLog (now log) ≡ true) × Stands (nameOf (now slot)) (namesOf (now log)) back ⌝ }
-    ensures { λ _. ⌜ now (out .exit) ≡ put (now (out .entry)) q (rowBytes (shaped (nameOf (now (slot .entry))) (namesOf (now (log .entry))) back)) ⌝ }
+// The names that are joined of two: the tuples of r(k) but the last, then `last` and `marker`, then the tuples of v. Rows are copied as bytes.
+fn write_joined(
+    out: &mut [u8],
+    p: usize,
+    slot: &[u8],
+    cut: usize,
+    log: &[u8],
+    k: usize,
+    last: Tuple,
+    marker: Tuple,
+)
+    requires { ⌜ (p + slotSize ≤ length (now out)) × (keepsSlot (now slot) ≡ true) × (cut ≤ length (nameOf (now slot))) ⌝ }
+    requires { ⌜ (1 ≤ length (getD (namesOf (now log)) k [])) × (length (getD (namesOf (now log)) k []) + 1 + length (drop cut (nameOf (now slot))) ≤ limit) ⌝ }
+    ensures { λ _. ⌜ now (out .exit) ≡ put (now (out .entry)) p (slotBytes (record { line = lineOf (now (slot .entry)); name = take (length (getD (namesOf (now (log .entry))) k []) - 1) (getD (namesOf (now (log .entry))) k []) ++ (last ∷ marker ∷ drop cut (nameOf (now (slot .entry)))) })) ⌝ }
 {
-    let n = count_back(slot, log, back);
-    let mut i: usize = 0;
-    while i < n {
-        slots::write_tuple(out, q + TUPLE * i, tuple_back(slot, log, back, i));
-        i += 1;
-    }
+    let r = pages::span_of(log, k);
+    let v = own(slot, cut);
+    let first = r.count - 1;
+    let count = r.count + 1 + v.count;
+    let end = p + HEAD + TUPLE * first;
+    slots::write_head(out, p, count, slots::read_line(slot));
+    slots::copy_row(out, p + HEAD, log, r.at, first);
+    slots::write_tuple(out, end, last);
+    slots::write_tuple(out, end + TUPLE, marker);
+    slots::copy_row(out, end + TUPLE + TUPLE, slot, v.at, v.count);
+    slots::write_rest(out, p, count);
 }
 
-// A slot of the name taken back, tuple by tuple: for the names that are joined of two.
-fn write_joined(out: &mut [u8], p: usize, slot: &[u8], log: &[u8], back: Back)
-    requires { ⌜ (p + slotSize ≤ length (now out)) × (keepsSlot (now slot) ≡ true) × (isLog (now log) ≡ true) × Stands (nameOf (now slot)) (namesOf (now log)) back × (fits (shaped (nameOf (now slot)) (namesOf (now log)) back) ≡ true) ⌝ }
-    ensures { λ _. ⌜ now (out .exit) ≡ put (now (out .entry)) p (slotBytes (record { line = lineOf (now (slot .entry)); name = shaped (nameOf (now (slot .entry))) (namesOf (now (log .entry))) back })) ⌝ }
+// r(k)·m·v
+fn write_behind(out: &mut [u8], p: usize, slot: &[u8], cut: usize, log: &[u8], k: usize)
+    requires { ⌜ (p + slotSize ≤ length (now out)) × (keepsSlot (now slot) ≡ true) × (cut ≤ length (nameOf (now slot))) ⌝ }
+    requires { ⌜ (isLog (now log) ≡ true) × (k < length (namesOf (now log))) × (fits (getD (namesOf (now log)) k [] ++ (m ∷ drop cut (nameOf (now slot)))) ≡ true) ⌝ }
+    ensures { λ _. ⌜ now (out .exit) ≡ put (now (out .entry)) p (slotBytes (record { line = lineOf (now (slot .entry)); name = getD (namesOf (now (log .entry))) k [] ++ (m ∷ drop cut (nameOf (now (slot .entry)))) })) ⌝ }
 {
-    let n = count_back(slot, log, back);
-    slots::write_head(out, p, n, slots::read_line(slot));
-    write_tuples(out, p + HEAD, slot, log, back);
-    slots::write_rest(out, p, n);
+    let r = pages::span_of(log, k);
+    let last = tuple_of(log, r, r.count - 1);
+    write_joined(out, p, slot, cut, log, k, last, name_values::low_marker());
+}
+
+// One below r(k), then M, then v.
+fn write_ahead(out: &mut [u8], p: usize, slot: &[u8], cut: usize, log: &[u8], k: usize)
+    requires { ⌜ (p + slotSize ≤ length (now out)) × (keepsSlot (now slot) ≡ true) × (cut ≤ length (nameOf (now slot))) ⌝ }
+    requires { ⌜ (isLog (now log) ≡ true) × (k < length (namesOf (now log))) × (fits (oneBelow (getD (namesOf (now log)) k []) ++ (M ∷ drop cut (nameOf (now slot)))) ≡ true) ⌝ }
+    ensures { λ _. ⌜ now (out .exit) ≡ put (now (out .entry)) p (slotBytes (record { line = lineOf (now (slot .entry)); name = oneBelow (getD (namesOf (now (log .entry))) k []) ++ (M ∷ drop cut (nameOf (now (slot .entry)))) })) ⌝ }
+{
+    let r = pages::span_of(log, k);
+    let last = tuple_lower(log, k, r, r.count - 1);
+    write_joined(out, p, slot, cut, log, k, last, name_values::high_marker());
 }
 
 // The slot from p on, its name taken back.
@@ -292,7 +319,18 @@ pub fn write_back(out: &mut [u8], p: usize, slot: &[u8], log: &[u8], back: Back)
     match back {
         Back::Restored(k) => write_restored(out, p, slot, log, k),
         Back::Own(cut) => write_own(out, p, slot, cut),
-        Back::Behind(_, _) => write_joined(out, p, slot, log, back),
-        Back::Ahead(_, _) => write_joined(out, p, slot, log, back),
+        Back::Behind(k, cut) => write_behind(out, p, slot, cut, log, k),
+        Back::Ahead(k, cut) => write_ahead(out, p, slot, cut, log, k),
+    }
+}
+
+// The slot from p on, its name taken back alone.
+pub fn write_single(out: &mut [u8], p: usize, slot: &[u8], log: &[u8], single: Single)
+    requires { ⌜ (p + slotSize ≤ length (now out)) × (keepsSlot (now slot) ≡ true) × (isLog (now log) ≡ true) × Stands (nameOf (now slot)) (namesOf (now log)) (asBack single) ⌝ }
+    ensures { λ _. ⌜ now (out .exit) ≡ put (now (out .entry)) p (slotBytes (record { line = lineOf (now (slot .entry)); name = shaped (nameOf (now (slot .entry))) (namesOf (now (log .entry))) (asBack single) })) ⌝ }
+{
+    match single {
+        Single::Logged(k) => write_restored(out, p, slot, log, k),
+        Single::Own(cut) => write_own(out, p, slot, cut),
     }
 }

@@ -1,28 +1,19 @@
 -- `one_name::back_of` meets its contract. Assumes nothing.
-use mathlib.Core.Path.{_≡_, refl, _∙_, sym, ap, subst}
-use mathlib.Core.Bool.{Bool}
-use mathlib.Core.List.{[], _∷_}
-use Prim.Native.Nat.{ℕ, suc, _-_, _/_}
+use mathlib.Core.Path.{_≡_, _∙_, ap}
+use mathlib.Core.List.{[]}
+use Prim.Native.Nat.{suc, _-_}
 use native.Mathlib.Omega.{arith}
 use denote.Ref.{now}
-use lib.IntN.{pos}
 use lib.ListN.{length, getD}
-use Rattle.names.specs.declared.Tuple.{Tuple}
-use Rattle.names.specs.Ordering.{Row, compareRows, isLess, _≤ⁿ_}
 use Rattle.slots.specs.Tuples.{rowAt}
-use Rattle.slots.specs.Slots.{slotSize}
 use Rattle.pages.specs.Pages.{namesOf}
-use Rattle.name_renames.specs.Renaming.{firstPosition, lead, N, under, over, stripBelow, stripAbove}
-use Rattle.names.proofs.TestedOrder.{is-under, not-under}
-use Rattle.name_renames.proofs.ByTest.{low-as}
+use Rattle.name_renames.specs.Renaming.{under, over}
 use Rattle.name_renames.proofs.BackByIndex.{back-under, back-over}
 use Rattle.one_name.proofs.CheckedLog.{logged}
+use Rattle.one_name.proofs.TestedSides.{last-is, under-first, from-first, over-last, to-last, low-is, high-is}
 use borrow.Author.Needs.{needs}
 use Rattle.one_name.proofs.back_of.Statement.{statement}
 use Rattle.one_name.proofs.back_of.Tie as tie
-
-above-as : (x : Row) {u v : Tuple} {b r : Bool} → u ≡ v → r ≡ isLess (compareRows (u ∷ []) x) → r ≡ b → isLess (compareRows (v ∷ []) x) ≡ b
-above-as x d f g = sym (ap (λ (t : Tuple). isLess (compareRows (t ∷ []) x)) d) ∙ sym f ∙ g
 
 first-position-requires : tie.Need-first-position-requires
 first-position-requires c κs = search needs
@@ -51,13 +42,11 @@ returns c =
     let after-strip-below : tie.After-strip-below = search needs in
     let a = start .args in
     let log = now (a .log) in
-    let l = logged log (start .pre .0) in
-    let p = firstPosition (namesOf log) in
     let x = rowAt (now (a .s)) (a .c) in
-    let u = after-lead .lead .ensures ∙ ap (λ (n : ℕ). lead n (a .author) (pos 0)) (after-first-position .first-position .ensures) in
-    let h = is-under x (N p (a .author) 0) (low-as refl u (after-is-below .is-below .ensures) (then1 .if1 .taken)) in
-    let v = after-strip-below .strip-below .ensures .2 ∙ ap (λ (n : ℕ). stripBelow n (a .author) x) (after-first-position .first-position .ensures) in
-    (c .under .ensures .0, c .under .ensures .1 ∙ ap (under (getD (namesOf log) 0 [])) v ∙ back-under (a .author) x (namesOf log) (l .some) h)
+    let first = after-first-position .first-position .ensures in
+    let h = under-first log (a .author) x (start .pre .0) first (after-lead .lead .ensures) (after-is-below .is-below .ensures) (then1 .if1 .taken) in
+    let v = low-is log (a .author) x (start .pre .0) first (after-strip-below .strip-below .ensures .2) in
+    (c .under .ensures .0, c .under .ensures .1 ∙ ap (under (getD (namesOf log) 0 [])) v ∙ back-under (a .author) x (namesOf log) (logged log (start .pre .0) .some) h)
 
 sub-last : tie.Need-sub-last
 sub-last c =
@@ -96,15 +85,13 @@ returns-2 c =
     let after-strip-above : tie.After-strip-above = search needs in
     let a = start .args in
     let log = now (a .log) in
-    let l = logged log (start .pre .0) in
-    let p = firstPosition (namesOf log) in
     let x = rowAt (now (a .s)) (a .c) in
-    let k = length log / slotSize - 1 in
-    let d = after-numbered .numbered .ensures ∙ ap (λ (n : ℕ). lead n (a .author) (pos k)) (after-first-position .first-position .ensures) in
-    let e : suc k ≡ length (namesOf log) = omega (arith, l .some, l .count) in
-    let h = is-under (N p (a .author) k) x (above-as x d (after-is-above .is-above .ensures) (then2 .if2 .taken)) in
-    let v = after-strip-above .strip-above .ensures .2 ∙ ap (λ (n : ℕ). stripAbove n (a .author) k x) (after-first-position .first-position .ensures) in
-    (c .over .ensures .0, c .over .ensures .1 ∙ (λ i. over (getD (namesOf log) k []) (v i) (v i)) ∙ back-over (a .author) x (namesOf log) k e h)
+    let first = after-first-position .first-position .ensures in
+    let h = over-last log (a .author) x (start .pre .0) first (after-numbered .numbered .ensures) (after-is-above .is-above .ensures) (then2 .if2 .taken) in
+    let v = high-is log (a .author) x (start .pre .0) first (after-strip-above .strip-above .ensures .2) in
+    let k = last-is log (a .author) x (start .pre .0) in
+    let e : suc (length (namesOf log) - 1) ≡ length (namesOf log) = omega (arith, logged log (start .pre .0) .some) in
+    (c .over .ensures .0, c .over .ensures .1 ∙ (λ i. over (getD (namesOf log) (k i) []) (v i) (v i)) ∙ back-over (a .author) x (namesOf log) (length (namesOf log) - 1) e h)
 
 back-within-requires : tie.Need-back-within-requires
 back-within-requires c κs =
@@ -117,15 +104,10 @@ back-within-requires c κs =
     let after-is-above : tie.After-is-above = search needs in
     let a = start .args in
     let log = now (a .log) in
-    let l = logged log (start .pre .0) in
-    let p = firstPosition (namesOf log) in
     let x = rowAt (now (a .s)) (a .c) in
-    let u = after-lead .lead .ensures ∙ ap (λ (n : ℕ). lead n (a .author) (pos 0)) (after-first-position .first-position .ensures) in
-    let k = length log / slotSize - 1 in
-    let d = after-numbered .numbered .ensures ∙ ap (λ (n : ℕ). lead n (a .author) (pos k)) (after-first-position .first-position .ensures) in
-    let e : k ≡ length (namesOf log) - 1 = omega (arith, l .count) in
-    let g : x ≤ⁿ N p (a .author) k = not-under (N p (a .author) k) x (above-as x d (after-is-above .is-above .ensures) (c .if2 .left)) in
-    (start .pre, (not-under x (N p (a .author) 0) (low-as refl u (after-is-below .is-below .ensures) (else1 .if1 .left)), subst (λ (n : ℕ). x ≤ⁿ N p (a .author) n) e g))
+    let first = after-first-position .first-position .ensures in
+    let f = from-first log (a .author) x (start .pre .0) first (after-lead .lead .ensures) (after-is-below .is-below .ensures) (else1 .if1 .left) in
+    (start .pre, (f, to-last log (a .author) x (start .pre .0) first (after-numbered .numbered .ensures) (after-is-above .is-above .ensures) (c .if2 .left)))
 
 returns-3 : tie.Need-returns-3
 returns-3 c = search needs

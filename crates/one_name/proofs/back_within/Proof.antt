@@ -1,17 +1,12 @@
 -- `one_name::back_within` meets its contract. Assumes nothing.
-use mathlib.Core.Path.{_∙_, ap}
-use mathlib.Core.List.{[]}
-use Prim.Native.Nat.{ℕ, suc, _-_, _<_, _≤_}
-use native.Mathlib.Numerals.{add-one}
+use mathlib.Core.Path.{_∙_}
+use Prim.Native.Nat.{_≤_}
 use native.Mathlib.Omega.{arith}
 use denote.Ref.{now}
-use lib.ListN.{length, getD, drop}
+use lib.ListN.{length}
 use Rattle.slots.specs.Tuples.{rowAt}
 use Rattle.slots.proofs.TuplesInBytes.{length-tuplesAt}
-use Rattle.pages.specs.Pages.{namesOf}
-use Rattle.name_renames.specs.Renaming.{firstPosition, backBetween}
-use Rattle.name_renames.proofs.BackByIndex.{lies-within, within-long, within-natural, within-at, back-logged, back-in-gap}
-use Rattle.one_name.proofs.CheckedLog.{logged}
+use Rattle.one_name.proofs.TestedSides.{index-read, restored, next-logged, in-gap}
 use borrow.Author.Needs.{needs}
 use Rattle.one_name.proofs.back_within.Statement.{statement}
 use Rattle.one_name.proofs.back_within.Tie as tie
@@ -20,33 +15,18 @@ index-of-requires : tie.Need-index-of-requires
 index-of-requires c κs =
     let start : tie.Start = search needs in
     let a = start .args in
-    let log = now (a .log) in
-    let l = logged log (start .pre .0 .0) in
-    let p = firstPosition (namesOf log) in
-    let n = length (namesOf log) - 1 in
-    let x = rowAt (now (a .s)) (a .c) in
-    let w = lies-within p (a .author) n x (start .pre .1 .0) (start .pre .1 .1) in
-    let deep = length-tuplesAt (now (a .s)) (a .c .at) (a .c .count) in
-    let long = within-long p (a .author) w in
-    (start .pre .0 .1, omega arith, within-natural p (a .author) w)
+    let i = index-read (now (a .log)) (a .author) (rowAt (now (a .s)) (a .c)) (start .pre .0 .0) (start .pre .1 .0) (start .pre .1 .1) in
+    (start .pre .0 .1, omega (arith, i .0, length-tuplesAt (now (a .s)) (a .c .at) (a .c .count)), i .1)
 
 returns : tie.Need-returns
 returns c =
     let after-index-of : tie.After-index-of = search needs in
     let start : tie.Start = search needs in
     let a = start .args in
-    let log = now (a .log) in
-    let l = logged log (start .pre .0 .0) in
-    let p = firstPosition (namesOf log) in
-    let n = length (namesOf log) - 1 in
     let x = rowAt (now (a .s)) (a .c) in
-    let w = lies-within p (a .author) n x (start .pre .1 .0) (start .pre .1 .1) in
-    let k = after-index-of .index-of .result in
-    let v = within-at p (a .author) w k (after-index-of .index-of .ensures) in
     let deep = length-tuplesAt (now (a .s)) (a .c .at) (a .c .count) in
-    let h = v .1 in
-    let i : k < length (namesOf log) = omega (arith, l .some) in
-    (i, back-logged (a .author) x (namesOf log) k i (v .0) (omega arith))
+    let known = after-index-of .index-of in
+    restored (now (a .log)) (a .author) x (start .pre .0 .0) (start .pre .1 .0) (start .pre .1 .1) (known .result) (known .ensures) (omega arith)
 
 between-requires : tie.Need-between-requires
 between-requires c κs =
@@ -54,17 +34,11 @@ between-requires c κs =
     let after-index-of : tie.After-index-of = search needs in
     let start : tie.Start = search needs in
     let a = start .args in
-    let log = now (a .log) in
-    let l = logged log (start .pre .0 .0) in
-    let p = firstPosition (namesOf log) in
-    let n = length (namesOf log) - 1 in
     let x = rowAt (now (a .s)) (a .c) in
-    let w = lies-within p (a .author) n x (start .pre .1 .0) (start .pre .1 .1) in
-    let k = after-index-of .index-of .result in
-    let v = within-at p (a .author) w k (after-index-of .index-of .ensures) in
-    let deep = length-tuplesAt (now (a .s)) (a .c .at) (a .c .count) in
-    let h = v .1 in
-    (omega (arith, v .2 (omega (arith, else1 .if1 .left)), l .some), start .pre .0 .1, omega arith)
+    let two : 2 ≤ length x = omega (arith, length-tuplesAt (now (a .s)) (a .c .at) (a .c .count), else1 .if1 .left) in
+    let known = after-index-of .index-of in
+    let next = next-logged (now (a .log)) (a .author) x (start .pre .0 .0) (start .pre .1 .0) (start .pre .1 .1) (known .result) (known .ensures) two in
+    (next, start .pre .0 .1, omega (arith, else1 .if1 .left))
 
 returns-2 : tie.Need-returns-2
 returns-2 c =
@@ -72,22 +46,11 @@ returns-2 c =
     let after-index-of : tie.After-index-of = search needs in
     let start : tie.Start = search needs in
     let a = start .args in
-    let log = now (a .log) in
-    let l = logged log (start .pre .0 .0) in
-    let p = firstPosition (namesOf log) in
-    let n = length (namesOf log) - 1 in
     let x = rowAt (now (a .s)) (a .c) in
-    let w = lies-within p (a .author) n x (start .pre .1 .0) (start .pre .1 .1) in
-    let k = after-index-of .index-of .result in
-    let v = within-at p (a .author) w k (after-index-of .index-of .ensures) in
-    let deep = length-tuplesAt (now (a .s)) (a .c .at) (a .c .count) in
-    let h = v .1 in
-    let two : 2 ≤ length x = omega (arith, else1 .if1 .left) in
-    let r = v .2 two in
-    let i : suc k < length (namesOf log) = omega (arith, r, l .some) in
-    let q = ap (λ (j : ℕ). getD (namesOf log) j []) (add-one k) in
-    let gap = back-in-gap (a .author) x (namesOf log) k i (v .0) two in
-    (c .between .ensures .0, c .between .ensures .1 ∙ (λ j. backBetween (getD (namesOf log) k []) (q j) (drop 1 x)) ∙ gap)
+    let two : 2 ≤ length x = omega (arith, length-tuplesAt (now (a .s)) (a .c .at) (a .c .count), else1 .if1 .left) in
+    let known = after-index-of .index-of in
+    let gap = in-gap (now (a .log)) (a .author) x (start .pre .0 .0) (start .pre .1 .0) (start .pre .1 .1) (known .result) (known .ensures) two in
+    (c .between .ensures .0, c .between .ensures .1 ∙ gap)
 
 pub back-within-spec : {M : Type 1} → statement M
 back-within-spec =

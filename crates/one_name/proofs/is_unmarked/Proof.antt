@@ -1,23 +1,25 @@
 -- `one_name::is_unmarked` meets its contract. Assumes nothing.
-use mathlib.Core.Path.{_≡_, refl, _∙_, sym, ap}
+use mathlib.Core.Path.{_≡_, _∙_, sym, ap}
 use mathlib.Core.Bool.{Bool, not, _&&_}
 use Prim.Native.Nat.{ℕ, _+_, _-_, _*_, _≤_, _<_}
 use native.Mathlib.Omega.{arith}
 use denote.Ref.{now}
 use lib.ListN.{length, drop}
 use Rattle.names.specs.declared.Tuple.{Tuple}
-use Rattle.names.specs.Names.{marker, m}
+use Rattle.names.specs.Names.{limit, marker, m}
+use Rattle.names.proofs.Validity.{name-valid}
 use Rattle.numbers.specs.Bytes.{Bytes}
-use Rattle.numbers.proofs.Every.{every-at, every-end}
-use Rattle.slots.specs.Tuples.{tupleAt, tuplesAt, tupleSize}
+use Rattle.numbers.proofs.Every.{every-at}
+use Rattle.slots.specs.Tuples.{tupleAt, tuplesAt, rowAt, tupleSize}
 use Rattle.slots.proofs.TuplesInBytes.{length-tuplesAt, getD-tuplesAt}
 use Rattle.one_name.specs.Markers.{unmarked}
+use Rattle.one_name.proofs.Unmarked.{after-first, last-free}
 use borrow.Author.Needs.{needs}
 use Rattle.one_name.proofs.is_unmarked.Statement.{statement}
 use Rattle.one_name.proofs.is_unmarked.Tie as tie
 
 abbrev Inv-loop : tie.InvT-loop
-Inv-loop s n p i₀ i = (p + tupleSize * n ≤ length s) × (unmarked (drop i (tuplesAt s p n)) ≡ unmarked (tuplesAt s p n))
+Inv-loop s n p i₀ i = (i ≤ limit) × (p + tupleSize * n ≤ length s) × (unmarked (drop i (tuplesAt s p n)) ≡ unmarked (tuplesAt s p n))
 
 abbrev μ-loop : tie.MeasureT-loop
 μ-loop s n p i₀ i = n - i
@@ -32,7 +34,10 @@ turn s p n i h e =
 loop-holds : tie.Need-loop-holds Inv-loop μ-loop
 loop-holds c =
     let start : tie.Start Inv-loop μ-loop = search needs in
-    (start .pre .0, refl)
+    (omega arith, start .pre .0 .0, after-first (name-valid (rowAt (now (start .args .s)) (start .args .x)) (start .pre .1)))
+
+add-if1 : tie.Need-add-if1 Inv-loop μ-loop
+add-if1 c = omega arith
 
 mul-marker-at : tie.Need-mul-marker-at Inv-loop μ-loop
 mul-marker-at c = omega arith
@@ -62,7 +67,7 @@ loop-again c =
     let h : i < x .count = omega (arith, else1 .if1 .left) in
     let left = unmarked (drop (i + 1) (tuplesAt s (x .at) (x .count))) in
     let next = ap (λ (b : Bool). not b && left) (sym (else2 .if2 .left)) ∙ turn s (x .at) (x .count) i h (after-marker-at .marker-at .ensures) in
-    (at-loop .loop .inv .0, next ∙ at-loop .loop .inv .1)
+    (omega (arith, else1 .if1 .left, start .pre .0 .1), at-loop .loop .inv .1, next ∙ at-loop .loop .inv .2)
 
 returns : tie.Need-returns Inv-loop μ-loop
 returns c =
@@ -70,8 +75,8 @@ returns c =
     let start : tie.Start Inv-loop μ-loop = search needs in
     let x = start .args .x in
     let s = now (start .args .s) in
-    let none : length (tuplesAt s (x .at) (x .count)) ≤ at-loop .loop .i = omega (arith, c .if1 .taken, length-tuplesAt s (x .at) (x .count)) in
-    every-end (λ (t : Tuple). not (marker t)) (tuplesAt s (x .at) (x .count)) (at-loop .loop .i) none ∙ at-loop .loop .inv .1
+    let last : length (rowAt s x) ≤ at-loop .loop .i + 1 = omega (arith, c .if1 .taken, length-tuplesAt s (x .at) (x .count)) in
+    last-free (at-loop .loop .i) (name-valid (rowAt s x) (start .pre .1)) last ∙ at-loop .loop .inv .2
 
 returns-2 : tie.Need-returns-2 Inv-loop μ-loop
 returns-2 c =
@@ -86,7 +91,7 @@ returns-2 c =
     let h : i < x .count = omega (arith, else1 .if1 .left) in
     let left = unmarked (drop (i + 1) (tuplesAt s (x .at) (x .count))) in
     let next = ap (λ (b : Bool). not b && left) (sym (then2 .if2 .taken)) ∙ turn s (x .at) (x .count) i h (after-marker-at .marker-at .ensures) in
-    next ∙ at-loop .loop .inv .1
+    next ∙ at-loop .loop .inv .2
 
 pub is-unmarked-spec : {M : Type 1} → statement M
 is-unmarked-spec =
@@ -95,6 +100,7 @@ is-unmarked-spec =
     Inv-loop
     μ-loop
     loop-holds
+    add-if1
     mul-marker-at
     add-marker-at
     marker-at-requires

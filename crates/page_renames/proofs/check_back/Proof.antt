@@ -8,17 +8,20 @@ use borrow.Author.Tests.{not-true, not-false}
 use denote.Ref.{now}
 use lib.ListN.{length, getD, drop}
 use Rattle.names.specs.Ordering.{Row, rising}
-use Rattle.names.specs.Names.{fits}
+use Rattle.names.specs.Names.{fits, isName}
+use Rattle.names.proofs.Validity.{valid-name}
 use Rattle.numbers.specs.Lists.{every}
 use Rattle.slots.specs.Slots.{slotSize}
 use Rattle.answers.specs.declared.Refusal.the-variants.{TooDeep, NotRisingBack}
 use Rattle.answers.specs.Answers.{_else_, inOrder}
 use Rattle.answers.specs.Laws.{here}
 use Rattle.pages.specs.Pages.{namesOf}
+use Rattle.pages.proofs.RoundTrip.{page-names}
 use Rattle.pages.proofs.SlotBySlot.{length-names}
 use Rattle.name_renames.specs.Renaming.{takeBack}
 use Rattle.one_name.specs.Backs.{shaped, Means}
 use Rattle.one_name.specs.Markers.{unmarked}
+use Rattle.one_name.proofs.CheckedLog.{logged}
 use Rattle.renamed_slots.specs.Ready.{Ready}
 use Rattle.page_renames.specs.declared.Checked.the-variants.{Refused, Passed}
 use Rattle.page_renames.specs.Renames.{takeBackTests}
@@ -43,8 +46,11 @@ Inv-loop page log author n unmarkedLog last₀ lastUnmarked₀ rises₀ i₀ las
 abbrev μ-loop : tie.MeasureT-loop
 μ-loop page log author n unmarkedLog last₀ lastUnmarked₀ rises₀ i₀ last lastUnmarked rises i = n - i
 
-log-unmarked-requires : tie.Need-log-unmarked-requires Inv-loop μ-loop
-log-unmarked-requires c κs = search needs
+all-unmarked-requires : tie.Need-all-unmarked-requires Inv-loop μ-loop
+all-unmarked-requires c κs =
+    let start : tie.Start Inv-loop μ-loop = search needs in
+    let g = now (start .args .log) in
+    logged g (asked (now (start .args .page)) g (start .args .author) (start .pre) .logged) .layout
 
 loop-holds : tie.Need-loop-holds Inv-loop μ-loop
 loop-holds c = (refl, omega arith, refl, refl, λ h. absurd (omega (arith, h)), omega arith, omega arith, λ h. absurd (omega (arith, h)))
@@ -97,7 +103,13 @@ back-fits-requires c κs =
 is-unmarked-requires : tie.Need-is-unmarked-requires Inv-loop μ-loop
 is-unmarked-requires c κs =
     let after-span-of : tie.After-span-of Inv-loop μ-loop = search needs in
-    after-span-of .span-of .ensures .0
+    let else1 : tie.Else1 Inv-loop μ-loop = search needs in
+    let at-loop : tie.At-loop Inv-loop μ-loop = search needs in
+    let start : tie.Start Inv-loop μ-loop = search needs in
+    let s = now (start .args .page) in
+    let v = asked s (now (start .args .log)) (start .args .author) (start .pre) in
+    let within : at-loop .loop .i < length (namesOf s) = omega (arith, else1 .if1 .left, at-loop .loop .inv .0, length-names s (length s / slotSize)) in
+    (after-span-of .span-of .ensures .0, ap isName (after-span-of .span-of .ensures .1) ∙ valid-name (page-names s (v .layout) (at-loop .loop .i) within))
 
 both-requires : tie.Need-both-requires Inv-loop μ-loop
 both-requires c κs = search needs
@@ -130,8 +142,8 @@ still-rises-requires c κs =
     let after-both2 : tie.After-both2 Inv-loop μ-loop = search needs in
     let after-both : tie.After-both Inv-loop μ-loop = search needs in
     let after-is-unmarked : tie.After-is-unmarked Inv-loop μ-loop = search needs in
-    let after-log-unmarked : tie.After-log-unmarked Inv-loop μ-loop = search needs in
-    let plain = after-both .both .ensures ∙ (λ k. after-log-unmarked .log-unmarked .ensures k && (after-is-unmarked .is-unmarked .ensures ∙ ap unmarked (after-span-of .span-of .ensures .1)) k) in
+    let after-all-unmarked : tie.After-all-unmarked Inv-loop μ-loop = search needs in
+    let plain = after-both .both .ensures ∙ (λ k. after-all-unmarked .all-unmarked .ensures k && (after-is-unmarked .is-unmarked .ensures ∙ ap unmarked (after-span-of .span-of .ensures .1)) k) in
     let v = asked s g author (start .pre) in
     let last = at-loop .loop .last in
     let before = at-loop .loop .inv .4 in
@@ -175,8 +187,8 @@ loop-again c =
     let turn = rising-turn s f i h went (goes .result) both in
     let after-both : tie.After-both Inv-loop μ-loop = search needs in
     let after-is-unmarked : tie.After-is-unmarked Inv-loop μ-loop = search needs in
-    let after-log-unmarked : tie.After-log-unmarked Inv-loop μ-loop = search needs in
-    let plain = after-both .both .ensures ∙ (λ k. after-log-unmarked .log-unmarked .ensures k && (after-is-unmarked .is-unmarked .ensures ∙ ap unmarked (after-span-of .span-of .ensures .1)) k) in
+    let after-all-unmarked : tie.After-all-unmarked Inv-loop μ-loop = search needs in
+    let plain = after-both .both .ensures ∙ (λ k. after-all-unmarked .all-unmarked .ensures k && (after-is-unmarked .is-unmarked .ensures ∙ ap unmarked (after-span-of .span-of .ensures .1)) k) in
     let same : i ≡ i + 1 - 1 = omega arith in
     let here-plain = plain ∙ ap (λ (k : ℕ). every unmarked l && unmarked (getD (namesOf s) k [])) same in
     let known = subst (λ (k : ℕ). Ready (getD (namesOf s) k []) l b × (shaped (getD (namesOf s) k []) l b ≡ f (getD (namesOf s) k []))) same (ready s g author node sequence v i h b m fit, m .1) in
@@ -227,7 +239,7 @@ check-back-spec =
     (tie.spec
     Inv-loop
     μ-loop
-    log-unmarked-requires
+    all-unmarked-requires
     loop-holds
     check-rising-requires
     mul-at

@@ -55,7 +55,7 @@ all-renamed-fit-requires c κs =
     let start : tie.Start = search needs in
     let a = start .args in
     let v = asked (now (a .page)) (now (a .log)) (a .author) (start .pre) in
-    (v .rising, v .logged)
+    (v .layout, v .logged)
 
 returns-3 : tie.Need-returns-3
 returns-3 c =

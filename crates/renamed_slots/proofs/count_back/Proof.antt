@@ -10,7 +10,8 @@ use Rattle.slots.specs.Slots.{nameOf}
 use Rattle.pages.specs.Pages.{namesOf}
 use Rattle.one_name.specs.declared.Back.{Back}
 use Rattle.one_name.specs.Backs.{shaped, Stands}
-use Rattle.renamed_slots.proofs.ReadTuples.{count-of, lowered-length}
+use Rattle.names.proofs.Laws.{below-length}
+use Rattle.renamed_slots.proofs.ReadTuples.{count-of}
 use borrow.Author.Needs.{needs}
 use Rattle.renamed_slots.proofs.count_back.Statement.{statement}
 use Rattle.renamed_slots.proofs.count_back.Tie as tie
@@ -97,7 +98,7 @@ returns-4 c =
     let found = after-back4 .back4 .given in
     let r = getD l (found .0 .0) [] in
     let v = drop (found .0 .1 .0) c in
-    let size : length r + 1 + length v ≡ length (oneBelow r ++ (M ∷ v)) = omega (arith, length-append (oneBelow r) (M ∷ v), lowered-length r) in
+    let size : length r + 1 + length v ≡ length (oneBelow r ++ (M ∷ v)) = omega (arith, length-append (oneBelow r) (M ∷ v), below-length r) in
     after-count-joined2 .count-joined2 .ensures ∙ size ∙ ap (λ (q : Back). length (shaped c l q)) (sym (found .1))
 
 pub count-back-spec : {M : Type 1} → statement M

@@ -9,7 +9,8 @@ use Rattle.names.specs.declared.Tuple.{Tuple}
 use Rattle.names.specs.Names.{oneBelow, m, M}
 use Rattle.slots.specs.Slots.{nameOf}
 use Rattle.pages.specs.Pages.{namesOf}
-use Rattle.renamed_slots.proofs.ReadTuples.{count-of, lowered-length, second-row}
+use Rattle.names.proofs.Laws.{below-length}
+use Rattle.renamed_slots.proofs.ReadTuples.{count-of, second-row}
 use borrow.Author.Needs.{needs}
 use Rattle.renamed_slots.proofs.tuple_ahead.Statement.{statement}
 use Rattle.renamed_slots.proofs.tuple_ahead.Tie as tie
@@ -27,7 +28,7 @@ returns c =
     let start : tie.Start = search needs in
     let x = start .args in
     let a = getD (namesOf (now (x .log))) (x .k) [] in
-    let n = count-of (now (x .log)) (after-span-of .span-of .result) (after-span-of .span-of .ensures .1) ∙ sym (lowered-length a) in
+    let n = count-of (now (x .log)) (after-span-of .span-of .result) (after-span-of .span-of .ensures .1) ∙ sym (below-length a) in
     let v = drop (x .cut) (nameOf (now (x .slot))) in
     c .tuple-lower .ensures ∙ sym (List·getD-append (oneBelow a) (M ∷ v) m (x .i) (omega (arith, then1 .if1 .taken)))
 
@@ -40,7 +41,7 @@ tuple-marked-requires c κs =
     let start : tie.Start = search needs in
     let x = start .args in
     let a = getD (namesOf (now (x .log))) (x .k) [] in
-    let n = count-of (now (x .log)) (after-span-of .span-of .result) (after-span-of .span-of .ensures .1) ∙ sym (lowered-length a) in
+    let n = count-of (now (x .log)) (after-span-of .span-of .result) (after-span-of .span-of .ensures .1) ∙ sym (below-length a) in
     let v = drop (x .cut) (nameOf (now (x .slot))) in
     let few : x .i - after-span-of .span-of .result .count ≤ length v = omega (arith, start .pre .4, length-append (oneBelow a) (M ∷ v)) in
     (start .pre .0, start .pre .1, few)
@@ -53,7 +54,7 @@ returns-2 c =
     let start : tie.Start = search needs in
     let x = start .args in
     let a = getD (namesOf (now (x .log))) (x .k) [] in
-    let n = count-of (now (x .log)) (after-span-of .span-of .result) (after-span-of .span-of .ensures .1) ∙ sym (lowered-length a) in
+    let n = count-of (now (x .log)) (after-span-of .span-of .result) (after-span-of .span-of .ensures .1) ∙ sym (below-length a) in
     let v = drop (x .cut) (nameOf (now (x .slot))) in
     let count = after-span-of .span-of .result .count in
     c .tuple-marked .ensures

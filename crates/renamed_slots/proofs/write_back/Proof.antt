@@ -1,6 +1,7 @@
 -- `renamed_slots::write_back` meets its contract. Assumes nothing.
 use mathlib.Core.Path.{_∙_, sym, ap, subst}
 use denote.Ref.{now}
+use Rattle.names.specs.Names.{fits}
 use Rattle.numbers.specs.Bytes.{put}
 use Rattle.slots.specs.Slots.{lineOf, nameOf, slotBytes}
 use Rattle.slots.proofs.RoundTrip.{kept}
@@ -37,17 +38,33 @@ write-own-requires c κs =
     let h = subst (Stands (nameOf s) l) (after-back2 .back2 .given .1) (start .pre .3) in
     (start .pre .0, start .pre .1, h .1)
 
-enum-told : tie.Need-enum-told
-enum-told c = search needs
+enum-known-back-3 : tie.Need-enum-known-back-3
+enum-known-back-3 c = search needs
 
-write-joined-requires : tie.Need-write-joined-requires
-write-joined-requires c κs = search needs
+write-behind-requires : tie.Need-write-behind-requires
+write-behind-requires c κs =
+    let after-back3 : tie.After-back3 = search needs in
+    let start : tie.Start = search needs in
+    let x = start .args in
+    let s = now (x .slot) in
+    let l = namesOf (now (x .log)) in
+    let e = after-back3 .back3 .given .1 in
+    let h = subst (Stands (nameOf s) l) e (start .pre .3) in
+    ((start .pre .0, start .pre .1, h .1 .0), (start .pre .2, h .0, ap (λ (q : Back). fits (shaped (nameOf s) l q)) (sym e) ∙ start .pre .4))
 
-enum-told-2 : tie.Need-enum-told-2
-enum-told-2 c = search needs
+enum-known-back-4 : tie.Need-enum-known-back-4
+enum-known-back-4 c = search needs
 
-write-joined-requires-2 : tie.Need-write-joined-requires-2
-write-joined-requires-2 c κs = search needs
+write-ahead-requires : tie.Need-write-ahead-requires
+write-ahead-requires c κs =
+    let after-back4 : tie.After-back4 = search needs in
+    let start : tie.Start = search needs in
+    let x = start .args in
+    let s = now (x .slot) in
+    let l = namesOf (now (x .log)) in
+    let e = after-back4 .back4 .given .1 in
+    let h = subst (Stands (nameOf s) l) e (start .pre .3) in
+    ((start .pre .0, start .pre .1, h .1 .0), (start .pre .2, h .0, ap (λ (q : Back). fits (shaped (nameOf s) l q)) (sym e) ∙ start .pre .4))
 
 same-length : tie.Need-same-length
 same-length c = search needs
@@ -78,16 +95,24 @@ same-length-3 c = search needs
 
 returns-3 : tie.Need-returns-3
 returns-3 c =
-    let after-write-joined : tie.After-write-joined = search needs in
-    after-write-joined .write-joined .ensures
+    let after-write-behind : tie.After-write-behind = search needs in
+    let after-back3 : tie.After-back3 = search needs in
+    let start : tie.Start = search needs in
+    let x = start .args in
+    let s = now (x .slot) in
+    after-write-behind .write-behind .ensures ∙ ap (λ (q : Back). put (now (x .out)) (x .p) (slotBytes (record { line = lineOf s; name = shaped (nameOf s) (namesOf (now (x .log))) q }))) (sym (after-back3 .back3 .given .1))
 
 same-length-4 : tie.Need-same-length-4
 same-length-4 c = search needs
 
 returns-4 : tie.Need-returns-4
 returns-4 c =
-    let after-write-joined2 : tie.After-write-joined2 = search needs in
-    after-write-joined2 .write-joined2 .ensures
+    let after-write-ahead : tie.After-write-ahead = search needs in
+    let after-back4 : tie.After-back4 = search needs in
+    let start : tie.Start = search needs in
+    let x = start .args in
+    let s = now (x .slot) in
+    after-write-ahead .write-ahead .ensures ∙ ap (λ (q : Back). put (now (x .out)) (x .p) (slotBytes (record { line = lineOf s; name = shaped (nameOf s) (namesOf (now (x .log))) q }))) (sym (after-back4 .back4 .given .1))
 
 pub write-back-spec : {M : Type 1} → statement M
 write-back-spec =
@@ -97,10 +122,10 @@ write-back-spec =
     write-restored-requires
     enum-known-back-2
     write-own-requires
-    enum-told
-    write-joined-requires
-    enum-told-2
-    write-joined-requires-2
+    enum-known-back-3
+    write-behind-requires
+    enum-known-back-4
+    write-ahead-requires
     same-length
     returns
     same-length-2

@@ -1,4 +1,4 @@
--- `one_name::log_unmarked` meets its contract. Assumes nothing.
+-- `one_name::all_unmarked` meets its contract. Assumes nothing.
 use mathlib.Core.Path.{_≡_, refl, _∙_, sym, ap}
 use mathlib.Core.Bool.{Bool, _&&_}
 use mathlib.Core.List.{[]}
@@ -8,29 +8,32 @@ use borrow.Author.Tests.{not-true, not-false}
 use denote.Ref.{now}
 use lib.ListN.{length, drop, getD}
 use Rattle.names.specs.Ordering.{Row}
+use Rattle.names.specs.Names.{isName}
+use Rattle.names.proofs.Validity.{valid-name}
 use Rattle.numbers.specs.Bytes.{Bytes}
 use Rattle.numbers.specs.Lists.{every}
 use Rattle.numbers.proofs.Every.{every-at, every-end}
 use Rattle.slots.specs.Slots.{slotSize}
 use Rattle.pages.specs.Pages.{namesOf}
+use Rattle.pages.proofs.RoundTrip.{page-names}
 use Rattle.pages.proofs.SlotBySlot.{length-names}
 use Rattle.one_name.specs.Markers.{unmarked}
 use borrow.Author.Needs.{needs}
-use Rattle.one_name.proofs.log_unmarked.Statement.{statement}
-use Rattle.one_name.proofs.log_unmarked.Tie as tie
+use Rattle.one_name.proofs.all_unmarked.Statement.{statement}
+use Rattle.one_name.proofs.all_unmarked.Tie as tie
 
 abbrev Inv-loop : tie.InvT-loop
-Inv-loop log n k₀ k = (n ≡ length log / slotSize) × (every unmarked (drop k (namesOf log)) ≡ every unmarked (namesOf log))
+Inv-loop page n k₀ k = (n ≡ length page / slotSize) × (every unmarked (drop k (namesOf page)) ≡ every unmarked (namesOf page))
 
 abbrev μ-loop : tie.MeasureT-loop
-μ-loop log n k₀ k = n - k
+μ-loop page n k₀ k = n - k
 
 -- what the test of name k says of the names from there on
-turn : (log : Bytes) (k : ℕ) {r : Bool} {x : Row} → k < length log / slotSize → r ≡ unmarked x → x ≡ getD (namesOf log) k [] →
-    r && every unmarked (drop (k + 1) (namesOf log)) ≡ every unmarked (drop k (namesOf log))
-turn log k h e f =
-    let l : k < length (namesOf log) = omega (arith, length-names log (length log / slotSize)) in
-    every-at unmarked (namesOf log) k [] l (e ∙ ap unmarked f)
+turn : (page : Bytes) (k : ℕ) {r : Bool} {x : Row} → k < length page / slotSize → r ≡ unmarked x → x ≡ getD (namesOf page) k [] →
+    r && every unmarked (drop (k + 1) (namesOf page)) ≡ every unmarked (drop k (namesOf page))
+turn page k h e f =
+    let l : k < length (namesOf page) = omega (arith, length-names page (length page / slotSize)) in
+    every-at unmarked (namesOf page) k [] l (e ∙ ap unmarked f)
 
 loop-holds : tie.Need-loop-holds Inv-loop μ-loop
 loop-holds c = (refl, refl)
@@ -39,7 +42,15 @@ span-of-requires : tie.Need-span-of-requires Inv-loop μ-loop
 span-of-requires c κs = search needs
 
 is-unmarked-requires : tie.Need-is-unmarked-requires Inv-loop μ-loop
-is-unmarked-requires c κs = c .span-of .ensures .0
+is-unmarked-requires c κs =
+    let after-span-of : tie.After-span-of Inv-loop μ-loop = search needs in
+    let else1 : tie.Else1 Inv-loop μ-loop = search needs in
+    let at-loop : tie.At-loop Inv-loop μ-loop = search needs in
+    let start : tie.Start Inv-loop μ-loop = search needs in
+    let page = now (start .args .page) in
+    let k = at-loop .loop .k in
+    let h : k < length (namesOf page) = omega (arith, else1 .if1 .left, length-names page (length page / slotSize)) in
+    (after-span-of .span-of .ensures .0, ap isName (after-span-of .span-of .ensures .1) ∙ valid-name (page-names page (start .pre) k h))
 
 add-k : tie.Need-add-k Inv-loop μ-loop
 add-k c = omega arith
@@ -54,21 +65,21 @@ loop-again c =
     let else1 : tie.Else1 Inv-loop μ-loop = search needs in
     let at-loop : tie.At-loop Inv-loop μ-loop = search needs in
     let start : tie.Start Inv-loop μ-loop = search needs in
-    let log = now (start .args .log) in
+    let page = now (start .args .page) in
     let k = at-loop .loop .k in
-    let h : k < length log / slotSize = omega (arith, else1 .if1 .left) in
+    let h : k < length page / slotSize = omega (arith, else1 .if1 .left) in
     let r = after-is-unmarked .is-unmarked in
-    let left = every unmarked (drop (k + 1) (namesOf log)) in
-    let next = ap (λ (b : Bool). b && left) (sym (not-false (r .result) (c .if2 .left))) ∙ turn log k h (r .ensures) (after-span-of .span-of .ensures .1) in
+    let left = every unmarked (drop (k + 1) (namesOf page)) in
+    let next = ap (λ (b : Bool). b && left) (sym (not-false (r .result) (c .if2 .left))) ∙ turn page k h (r .ensures) (after-span-of .span-of .ensures .1) in
     (refl, next ∙ at-loop .loop .inv .1)
 
 returns : tie.Need-returns Inv-loop μ-loop
 returns c =
     let at-loop : tie.At-loop Inv-loop μ-loop = search needs in
     let start : tie.Start Inv-loop μ-loop = search needs in
-    let log = now (start .args .log) in
-    let none : length (namesOf log) ≤ at-loop .loop .k = omega (arith, c .if1 .taken, length-names log (length log / slotSize)) in
-    every-end unmarked (namesOf log) (at-loop .loop .k) none ∙ at-loop .loop .inv .1
+    let page = now (start .args .page) in
+    let none : length (namesOf page) ≤ at-loop .loop .k = omega (arith, c .if1 .taken, length-names page (length page / slotSize)) in
+    every-end unmarked (namesOf page) (at-loop .loop .k) none ∙ at-loop .loop .inv .1
 
 returns-2 : tie.Need-returns-2 Inv-loop μ-loop
 returns-2 c =
@@ -77,15 +88,15 @@ returns-2 c =
     let else1 : tie.Else1 Inv-loop μ-loop = search needs in
     let at-loop : tie.At-loop Inv-loop μ-loop = search needs in
     let start : tie.Start Inv-loop μ-loop = search needs in
-    let log = now (start .args .log) in
+    let page = now (start .args .page) in
     let k = at-loop .loop .k in
-    let h : k < length log / slotSize = omega (arith, else1 .if1 .left) in
+    let h : k < length page / slotSize = omega (arith, else1 .if1 .left) in
     let r = after-is-unmarked .is-unmarked in
-    let left = every unmarked (drop (k + 1) (namesOf log)) in
-    ap (λ (b : Bool). b && left) (sym (not-true (r .result) (c .if2 .taken))) ∙ turn log k h (r .ensures) (after-span-of .span-of .ensures .1) ∙ at-loop .loop .inv .1
+    let left = every unmarked (drop (k + 1) (namesOf page)) in
+    ap (λ (b : Bool). b && left) (sym (not-true (r .result) (c .if2 .taken))) ∙ turn page k h (r .ensures) (after-span-of .span-of .ensures .1) ∙ at-loop .loop .inv .1
 
-pub log-unmarked-spec : {M : Type 1} → statement M
-log-unmarked-spec =
+pub all-unmarked-spec : {M : Type 1} → statement M
+all-unmarked-spec =
     tie.close
     (tie.spec
     Inv-loop
