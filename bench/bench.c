@@ -46,6 +46,7 @@ static const char *const operation_names[OPERATIONS] = {
     [NEW_NAME] = "new name",
     [RENAME_PAGE] = "rename",
     [TAKE_BACK] = "take back",
+    [TAKE_BACK_EDITED] = "take back, edited",
     [WRITE_MESSAGE] = "write message",
     [READ_MESSAGE] = "read message",
     [FROM_OLD] = "from old",

@@ -13,6 +13,7 @@ typedef enum {
     NEW_NAME,
     RENAME_PAGE,
     TAKE_BACK,
+    TAKE_BACK_EDITED,
     WRITE_MESSAGE,
     READ_MESSAGE,
     FROM_OLD,

@@ -14,8 +14,8 @@ size_t shapes_of(Operation operation)
 {
     if (operation >= CHECK_EPOCHS)
         return CHAIN + 1;
-    /* An old page has names of at most eight tuples. */
-    return operation == FROM_OLD || operation == TO_OLD ? DEEP + 1 : SHAPES;
+    /* An old page has names of at most eight tuples; and a deepest name that is put behind another is too deep. */
+    return operation == FROM_OLD || operation == TO_OLD || operation == TAKE_BACK_EDITED ? DEEP + 1 : SHAPES;
 }
 
 Depths depths_of(Operation operation, Shape shape)
@@ -27,7 +27,7 @@ Depths depths_of(Operation operation, Shape shape)
     };
     Depths given = depths[shape];
     /* A rename may add a tuple. */
-    if (shape != SHALLOW && (operation == RENAME_PAGE || operation == TAKE_BACK))
+    if (shape != SHALLOW && (operation == RENAME_PAGE || operation == TAKE_BACK || operation == TAKE_BACK_EDITED))
         given.deepest--;
     return given;
 }
@@ -66,6 +66,22 @@ static void make_log(size_t lines, Depths depths, Part *log)
     for (size_t i = 0; i < lines; i++) {
         Slot slot = slot_at(i % 2 == 0 ? 2 * i : 2 * i + 1, 0, depths);
         add_slot(log, &slot);
+    }
+}
+
+/* A renamed book after lines were added: of each two lines, one that was logged and one inserted right behind it, under the
+ * name that 01's rule makes there, N(k)·(32768, node, sequence, 0). */
+static void make_edited(size_t lines, Depths depths, Part *page)
+{
+    const uint16_t position = slot_at(0, 0, depths).name.tuples[0].position;
+    page->length = 0;
+    for (size_t i = 0; i < lines; i++) {
+        Tuple logged = {position, AUTHOR_NODE, AUTHOR_SEQUENCE, (int32_t)(i - i % 2)};
+        Tuple added = {32768, OTHER_NODE, (uint32_t)i, 0};
+        Slot slot = {(uint32_t)i + 1, {1 + i % 2, {logged}}};
+        if (i % 2 == 1)
+            slot.name.tuples[1] = added;
+        add_slot(page, &slot);
     }
 }
 
@@ -129,6 +145,10 @@ void make_input(Operation operation, Shape shape, size_t size, Input *input)
         make_log(size, depths, second);
         if (operation == TAKE_BACK)
             become_result(RENAME_PAGE, SLOT_BYTES, input);
+        break;
+    case TAKE_BACK_EDITED:
+        make_log(size, depths, second);
+        make_edited(size, depths, first);
         break;
     case CHECK_LOG:
     case WRITE_MESSAGE:
