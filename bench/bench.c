@@ -47,6 +47,7 @@ static const char *const operation_names[OPERATIONS] = {
     [RENAME_PAGE] = "rename",
     [TAKE_BACK] = "take back",
     [TAKE_BACK_EDITED] = "take back, edited",
+    [TAKE_BACK_MARKED] = "take back, marked",
     [WRITE_MESSAGE] = "write message",
     [READ_MESSAGE] = "read message",
     [FROM_OLD] = "from old",

@@ -14,6 +14,7 @@ typedef enum {
     RENAME_PAGE,
     TAKE_BACK,
     TAKE_BACK_EDITED,
+    TAKE_BACK_MARKED,
     WRITE_MESSAGE,
     READ_MESSAGE,
     FROM_OLD,

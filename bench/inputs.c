@@ -10,12 +10,18 @@ enum {
     FIRST_NODE = 100 /* of the epochs */
 };
 
+/* A renamed book to which lines were added is taken back. */
+static bool is_edited(Operation operation)
+{
+    return operation == TAKE_BACK_EDITED || operation == TAKE_BACK_MARKED;
+}
+
 size_t shapes_of(Operation operation)
 {
     if (operation >= CHECK_EPOCHS)
         return CHAIN + 1;
     /* An old page has names of at most eight tuples; and a deepest name that is put behind another is too deep. */
-    return operation == FROM_OLD || operation == TO_OLD || operation == TAKE_BACK_EDITED ? DEEP + 1 : SHAPES;
+    return operation == FROM_OLD || operation == TO_OLD || is_edited(operation) ? DEEP + 1 : SHAPES;
 }
 
 Depths depths_of(Operation operation, Shape shape)
@@ -27,7 +33,7 @@ Depths depths_of(Operation operation, Shape shape)
     };
     Depths given = depths[shape];
     /* A rename may add a tuple. */
-    if (shape != SHALLOW && (operation == RENAME_PAGE || operation == TAKE_BACK || operation == TAKE_BACK_EDITED))
+    if (shape != SHALLOW && (operation == RENAME_PAGE || operation == TAKE_BACK || is_edited(operation)))
         given.deepest--;
     return given;
 }
@@ -70,10 +76,12 @@ static void make_log(size_t lines, Depths depths, Part *log)
 }
 
 /* A renamed book after lines were added: of each two lines, one that was logged and one inserted right behind it, under the
- * name that 01's rule makes there, N(k)·(32768, node, sequence, 0). */
-static void make_edited(size_t lines, Depths depths, Part *page)
+ * name that 01's rule makes there, N(k)·(32768, node, sequence, 0). Where one is to be marked, the first of these has an end
+ * marker and one tuple more. */
+static void make_edited(size_t lines, Depths depths, bool marked, Part *page)
 {
     const uint16_t position = slot_at(0, 0, depths).name.tuples[0].position;
+    const Tuple high = {65535, 65535, 4294967295, 2147483647};
     page->length = 0;
     for (size_t i = 0; i < lines; i++) {
         Tuple logged = {position, AUTHOR_NODE, AUTHOR_SEQUENCE, (int32_t)(i - i % 2)};
@@ -81,6 +89,11 @@ static void make_edited(size_t lines, Depths depths, Part *page)
         Slot slot = {(uint32_t)i + 1, {1 + i % 2, {logged}}};
         if (i % 2 == 1)
             slot.name.tuples[1] = added;
+        if (i == 1 && marked) {
+            slot.name.depth = 4;
+            slot.name.tuples[2] = high;
+            slot.name.tuples[3] = added;
+        }
         add_slot(page, &slot);
     }
 }
@@ -147,8 +160,9 @@ void make_input(Operation operation, Shape shape, size_t size, Input *input)
             become_result(RENAME_PAGE, SLOT_BYTES, input);
         break;
     case TAKE_BACK_EDITED:
+    case TAKE_BACK_MARKED:
         make_log(size, depths, second);
-        make_edited(size, depths, first);
+        make_edited(size, depths, operation == TAKE_BACK_MARKED, first);
         break;
     case CHECK_LOG:
     case WRITE_MESSAGE:
