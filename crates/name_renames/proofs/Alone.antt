@@ -127,8 +127,14 @@ module _ (author : Author) (log : List Row) where
 
   -- ── in order ──
 
+  pub lead-below : {k j : ℕ} → lead p author (pos k) <ᵗ lead p author (pos j) → k < j
+  lead-below (position h) = absurd (omega arith)
+  lead-below (node e h) = absurd (omega arith)
+  lead-below (sequence e f h) = absurd (omega arith)
+  lead-below (offset e f g (up h)) = h
+
   module _ (o : Rising log) where
-    reach : (i j : ℕ) → i ≤ j → j < length log → at log i ≤ⁿ at log j
+    pub reach : (i j : ℕ) → i ≤ j → j < length log → at log i ≤ⁿ at log j
     reach i j h k = elim (decLt i j) [
       | yes g ↦ less (rising-below i j o g k)
       | no g ↦ equal (ap (at log) (omega arith))
@@ -153,12 +159,6 @@ module _ (author : Author) (log : List Row) where
     held-mono e l (name d) (tuples i h g) = rw e h
     held-mono e l (tuples i h g) (name f) = no-nil (rw f at l)
     held-mono e l (tuples i h g) (tuples b x y) = l
-
-    lead-below : {k j : ℕ} → lead p author (pos k) <ᵗ lead p author (pos j) → k < j
-    lead-below (position h) = absurd (omega arith)
-    lead-below (node e h) = absurd (omega arith)
-    lead-below (sequence e f h) = absurd (omega arith)
-    lead-below (offset e f g (up h)) = h
 
     mid-mono : {k j : ℕ} {t u v w : Row} → j < length log → lead p author (pos k) ∷ t <ⁿ lead p author (pos j) ∷ u → Held k t v → Held j u w → v <ⁿ w
     mid-mono {j} b (differ h) x y = <≤-trans (held-before j (lead-below h) b x) (held-from y)

@@ -16,3 +16,5 @@ pub mod Alone
 pub mod Starred
 pub mod Laws
 pub mod BackDepth
+pub mod Apart
+pub mod Stems
