@@ -48,6 +48,7 @@ static const char *const operation_names[OPERATIONS] = {
     [TAKE_BACK] = "take back",
     [TAKE_BACK_EDITED] = "take back, edited",
     [TAKE_BACK_MARKED] = "take back, marked",
+    [TAKE_BACK_MARKED_LOG] = "take back, marked log",
     [WRITE_MESSAGE] = "write message",
     [READ_MESSAGE] = "read message",
     [FROM_OLD] = "from old",

@@ -100,6 +100,7 @@ const Call CALLS[OPERATIONS] = {
     [TAKE_BACK] = call_take_back,
     [TAKE_BACK_EDITED] = call_take_back,
     [TAKE_BACK_MARKED] = call_take_back,
+    [TAKE_BACK_MARKED_LOG] = call_take_back,
     [WRITE_MESSAGE] = call_write_message,
     [READ_MESSAGE] = call_read_message,
     [FROM_OLD] = call_from_old,

@@ -13,7 +13,7 @@ enum {
 /* A renamed book to which lines were added is taken back. */
 static bool is_edited(Operation operation)
 {
-    return operation == TAKE_BACK_EDITED || operation == TAKE_BACK_MARKED;
+    return operation == TAKE_BACK_EDITED || operation == TAKE_BACK_MARKED || operation == TAKE_BACK_MARKED_LOG;
 }
 
 size_t shapes_of(Operation operation)
@@ -76,25 +76,31 @@ static void make_log(size_t lines, Depths depths, Part *log)
 }
 
 /* A renamed book after lines were added: of each two lines, one that was logged and one inserted right behind it, under the
- * name that 01's rule makes there, N(k)·(32768, node, sequence, 0). Where one is to be marked, the first of these has an end
- * marker and one tuple more. */
-static void make_edited(size_t lines, Depths depths, bool marked, Part *page)
+ * name that 01's rule makes there, N(k)·(32768, node, sequence, 0). */
+static void make_edited(size_t lines, Depths depths, Part *page)
 {
     const uint16_t position = slot_at(0, 0, depths).name.tuples[0].position;
-    const Tuple high = {65535, 65535, 4294967295, 2147483647};
     page->length = 0;
     for (size_t i = 0; i < lines; i++) {
         Tuple logged = {position, AUTHOR_NODE, AUTHOR_SEQUENCE, (int32_t)(i - i % 2)};
         Tuple added = {32768, OTHER_NODE, (uint32_t)i, 0};
-        Slot slot = {(uint32_t)i + 1, {1 + i % 2, {logged}}};
-        if (i % 2 == 1)
-            slot.name.tuples[1] = added;
-        if (i == 1 && marked) {
-            slot.name.depth = 4;
-            slot.name.tuples[2] = high;
-            slot.name.tuples[3] = added;
-        }
+        Slot slot = {(uint32_t)i + 1, {1 + i % 2, {logged, added}}};
         add_slot(page, &slot);
+    }
+}
+
+/* Gives every so many-th name of a page, from one on, an end marker, and behind it its last tuple again. */
+static void mark_names(size_t from, size_t step, Part *page)
+{
+    const Tuple high = {65535, 65535, 4294967295, 2147483647};
+    for (size_t i = from; i < page->length / SLOT_BYTES; i += step) {
+        Slot slot;
+        if (!read_slot(page->bytes + i * SLOT_BYTES, &slot))
+            continue;
+        slot.name.tuples[slot.name.depth] = high;
+        slot.name.tuples[slot.name.depth + 1] = slot.name.tuples[slot.name.depth - 1];
+        slot.name.depth += 2;
+        write_slot(page->bytes + i * SLOT_BYTES, &slot);
     }
 }
 
@@ -161,8 +167,13 @@ void make_input(Operation operation, Shape shape, size_t size, Input *input)
         break;
     case TAKE_BACK_EDITED:
     case TAKE_BACK_MARKED:
+    case TAKE_BACK_MARKED_LOG:
         make_log(size, depths, second);
-        make_edited(size, depths, operation == TAKE_BACK_MARKED, first);
+        make_edited(size, depths, first);
+        if (operation != TAKE_BACK_EDITED)
+            mark_names(1, 2, first);
+        if (operation == TAKE_BACK_MARKED_LOG)
+            mark_names(0, 1, second);
         break;
     case CHECK_LOG:
     case WRITE_MESSAGE:

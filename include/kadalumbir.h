@@ -138,7 +138,7 @@ uint64_t kadalumbir_rename(const uint8_t *page, size_t page_len, const uint8_t *
                            uint32_t sequence, uint8_t *out, size_t out_len);
 
 /* Writes the page, which has names of after that rename, with the names of before it.
- * Refuses 1, 2, 3, 4, 6, 7, 8. Stack: 560 bytes. */
+ * Refuses 1, 2, 3, 4, 6, 7, 8. Stack: 510 bytes. */
 uint64_t kadalumbir_take_back(const uint8_t *page, size_t page_len, const uint8_t *log, size_t log_len, uint16_t node,
                               uint32_t sequence, uint8_t *out, size_t out_len);
 

@@ -3,5 +3,10 @@ pub mod CheckedLog
 pub mod PlaceInLog
 pub mod Unmarked
 pub mod TestedSides
-pub mod DeepestName
+pub mod Depths
+pub mod EachName
+pub mod Shapes
+pub mod StemsInBytes
+pub mod Neighbours
+pub mod Laws
 pub mod Settled

@@ -1,30 +1,24 @@
--- A valid name with no end marker is `MarkerFree` as crates/name_renames has it (`unmarked-free`). So two such names, over a log of such names, keep
--- their order when they are taken back (`kept-order`): what page_renames leaves untested. The first and the last tuple of a name are no markers
--- (`after-first`, `last-free`). Assumes nothing.
-use mathlib.Core.Path.{_≡_, refl, sym, ap}
-use mathlib.Core.List.{List, [], _∷_}
-use mathlib.Core.Bool.{Bool, true, not, _&&_}
-use Prim.Native.Nat.{ℕ, zero, suc, _+_, _≤_}
+-- End markers in a name: its last tuple is none (`last-free`), a tuple that is none is ordinary (`no-marker`), what the code's look for them from some
+-- tuple on says of each (`none-from`), and a name with none is `MarkerFree` (`unmarked-free`). Assumes nothing.
+use mathlib.Core.Path.{_≡_, refl, _∙_, sym, ap}
+use mathlib.Core.Bool.{Bool, true, false, not, _&&_}
+use Prim.Native.Nat.{ℕ, zero, suc, _+_, _-_, _<_, _≤_}
 use native.Mathlib.Omega.{arith}
-use native.Mathlib.Nat.{not-suc-le-zero}
-use lib.ListN.{length, drop}
-use lib.Seq.{drop-nil}
-use Rattle.names.specs.declared.Author.{Author}
+use borrow.Author.Tests.{not-true}
+use lib.ListN.{length, getD, drop, length-drop}
+use lib.Seq.{drop-nil, getD-drop}
 use Rattle.names.specs.declared.Tuple.{Tuple}
 use Rattle.names.specs.declared.Order.the-variants.{Less}
-use Rattle.names.specs.Ordering.{Row, compareTuples, _<ⁿ_, Rising}
+use Rattle.names.specs.Ordering.{Row, compareTuples}
 use Rattle.names.specs.Names.{m, M, marker}
 use Rattle.names.proofs.Laws.{tuple-less}
-use Rattle.names.proofs.Validity.{Ordinary, Middle, plain, marker-m, marker-M, Ends, final, onward, Valid, valid, valid-ends}
-use Rattle.numbers.specs.Lists.{every}
+use Rattle.names.proofs.Validity.{Ordinary, Middle, plain, marker-m, marker-M, Ends, final, onward, Valid, valid-ends}
 use Rattle.numbers.proofs.Bools.{and-0, and-1, yes-no}
-use Rattle.name_renames.specs.Renaming.{takeBack}
-use Rattle.name_renames.proofs.Lists.{All, nil, cons}
+use Rattle.numbers.proofs.Every.{every-each}
 use Rattle.name_renames.proofs.Splits.{SplitT, isBelow, isLevel, isAbove, splitT}
+use Rattle.name_renames.proofs.Lists.{nil, cons}
 use Rattle.name_renames.proofs.Gaps.{MarkerFree, ordinary-inner}
-use Rattle.name_renames.proofs.Validity.{valid-nonempty}
-use Rattle.name_renames.proofs.Backward.{takeBack-mono}
-use Rattle.one_name.specs.Markers.{unmarked}
+use Rattle.one_name.specs.Markers.{unmarked, unmarkedFrom}
 
 -- ── the ends of a name ──
 
@@ -51,31 +45,35 @@ ends-last (suc i) (onward b k) n = ends-last i k (omega arith)
 pub last-free : {a : Row} (i : ℕ) → Valid a → length a ≤ i + 1 → true ≡ unmarked (drop i a)
 last-free i v n = ends-last i (valid-ends v) n
 
--- a name has no marker where none follows its first tuple
-pub after-first : {a : Row} → Valid a → unmarked (drop 1 a) ≡ unmarked a
-after-first (valid {a} o k) = ap (λ (b : Bool). b && unmarked a) (ordinary-free o)
+-- ── a tuple that is no marker ──
 
--- ── names without markers ──
-
-middle-ordinary : {t : Tuple} → Middle t → not (marker t) ≡ true → Ordinary t
+pub middle-ordinary : {t : Tuple} → Middle t → not (marker t) ≡ true → Ordinary t
 unfolding marker compareTuples
 middle-ordinary (plain o) e = o
 middle-ordinary (marker-m q) e = yes-no (rw q at e) refl
 middle-ordinary (marker-M q) e = yes-no (rw q at e) refl
 
+-- of a name's tuples, one that is no marker is ordinary
+pub no-marker : {a : Row} (n : ℕ) → Ends a → n < length a → marker (getD a n m) ≡ false → Ordinary (getD a n m)
+no-marker zero (final o h) l e = o
+no-marker (suc n) (final o h) l e = absurd (omega arith)
+no-marker zero (onward b k) l e = middle-ordinary b (ap not e)
+no-marker (suc n) (onward b k) l e = no-marker n k (omega arith) e
+
+-- and where there is none from some tuple on, none of these is one
+pub none-from : (from : ℕ) (a : Row) → unmarkedFrom from a ≡ true → (n : ℕ) → from ≤ n → n < length a → marker (getD a n m) ≡ false
+none-from from a e n h l =
+    let i : n - from < length (drop from a) = omega (arith, length-drop from a) in
+    let at : from + (n - from) ≡ n = omega arith in
+    let there = getD-drop from a (n - from) m ∙ ap (λ (k : ℕ). getD a k m) at in
+    not-true (marker (getD a n m)) (ap (λ (t : Tuple). not (marker t)) (sym there) ∙ every-each (λ (t : Tuple). not (marker t)) (drop from a) (n - from) m i e)
+
+-- ── a name with none ──
+
 ends-free : {a : Row} → Ends a → unmarked a ≡ true → MarkerFree a
 ends-free (final o h) e = cons o nil
 ends-free (onward {t} {a} b k) e = cons (middle-ordinary b (and-0 (not (marker t)) (unmarked a) e)) (ends-free k (and-1 (not (marker t)) (unmarked a) e))
 
+-- it is `MarkerFree`, as crates/name_renames has it
 pub unmarked-free : {a : Row} → Valid a → unmarked a ≡ true → MarkerFree a
 unmarked-free v e = ends-free (valid-ends v) e
-
-all-free : (l : List Row) → All Valid l → every unmarked l ≡ true → All MarkerFree l
-all-free [] nil e = nil
-all-free (x ∷ l) (cons v vs) e = cons (unmarked-free v (and-0 (unmarked x) (every unmarked l) e)) (all-free l vs (and-1 (unmarked x) (every unmarked l) e))
-
-pub kept-order : (author : Author) (log : List Row) (c d : Row) → 1 ≤ length log → Rising log → All Valid log → every unmarked log ≡ true → Valid c → Valid d →
-    unmarked c ≡ true → unmarked d ≡ true → c <ⁿ d → takeBack author log c <ⁿ takeBack author log d
-kept-order author [] c d n o vs e v w f g l = absurd (not-suc-le-zero n)
-kept-order author (r ∷ rest) c d n o (cons x xs) e v w f g l =
-    takeBack-mono author r rest (valid-nonempty x) o (all-free (r ∷ rest) (cons x xs) e) (unmarked-free v f) (unmarked-free w g) l

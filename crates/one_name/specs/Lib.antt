@@ -1,3 +1,5 @@
 pub mod Markers
 pub mod Changes
 pub mod Backs
+pub mod Stems
+pub mod Laws

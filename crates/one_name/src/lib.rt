@@ -2,8 +2,8 @@
 // is made by value here, and as a slot by crates/renamed_slots. Document 01, "Renaming one name" and "Taking it back"; the definitions are those of crates/name_renames.
 ghost use mathlib.Core.Path.{_≡_};
 ghost use mathlib.Core.List.{[], _∷_, _++_};
-ghost use mathlib.Core.Bool.{true};
-ghost use Prim.Native.Nat.{_+_, _-_, _*_, _≤_, _<_, max};
+ghost use mathlib.Core.Bool.{true, _&&_};
+ghost use Prim.Native.Nat.{_+_, _-_, _*_, _≤_, _<_, max, min};
 ghost use lib.IntN.{pos};
 ghost use lib.ListN.{length, take, drop, getD};
 ghost use lib.Signed.{nonNeg};
@@ -12,12 +12,13 @@ ghost use Rattle.names.specs.Names.{limit, rowOf, isName, oneBelow, Gives, m, M
 ghost use Rattle.slots.specs.Tuples.{tupleSize, rowAt, Lies};
 ghost use Rattle.pages.specs.Pages.{maxSlots, namesOf, rises, keepsLayout, isLog};
 ghost use Rattle.pages.specs.Places.{below, placeOf};
-ghost use Rattle.name_renames.specs.Renaming.{firstPosition, lead as leadTuple, N, caseOf, ifBelow, rename as renameRow, under as underRow, over as overRow, backBetween, stripBelow, stripAbove, takeBack as takeBackRow};
+ghost use Rattle.name_renames.specs.Renaming.{firstPosition, lead as leadTuple, N, caseOf, ifBelow, rename as renameRow, stripBelow, stripAbove, takeBack as takeBackRow};
 ghost use Rattle.name_renames.specs.Alone.{isAbove, inGap, aloneWithin, alone as isAlone};
 ghost use Rattle.numbers.specs.Lists.{every};
-ghost use Rattle.one_name.specs.Markers.{unmarked};
+ghost use Rattle.one_name.specs.Markers.{unmarkedFrom};
 ghost use Rattle.one_name.specs.Changes.{indexOf, changeOf, changedBy, gains as gainsOne};
-ghost use Rattle.one_name.specs.Backs.{shaped, Stands, Means, single, deepestOf};
+ghost use Rattle.one_name.specs.Backs.{shaped, Stands, Means, single, deepestOf, shallowestOf, underShape, overShape, betweenShape, withinShape, shapeOf};
+ghost use Rattle.one_name.specs.Stems.{stem, isBehind, isAhead, isOwn, clearFrom, markedAt, mayMeet, rowOfStem, StemLies};
 use name_renames::Case;
 use names::Author;
 use names::Joined;
@@ -86,15 +87,15 @@ fn whole(x: Name) -> Joined
 
 // ── end markers ──
 
-// No end marker is in a name that stands in s. "The first and last tuples are ordinary .. and markers may stand only between": only the tuples
-// between are looked at.
-pub fn is_unmarked(s: &[u8], x: Span) -> bool
-    requires { ⌜ Lies (now s) x × (isName (rowAt (now s) x) ≡ true) ⌝ }
-    ensures { λ r. ⌜ r ≡ unmarked (rowAt (now (s .entry)) x) ⌝ }
+// No end marker is in a name that stands in s from its tuple `from` on. "The first and last tuples are ordinary .. and markers may stand only between": the
+// last is not looked at.
+fn is_unmarked(s: &[u8], x: Span, from: usize) -> bool
+    requires { ⌜ Lies (now s) x × (isName (rowAt (now s) x) ≡ true) × (from ≤ limit) ⌝ }
+    ensures { λ r. ⌜ r ≡ unmarkedFrom from (rowAt (now (s .entry)) x) ⌝ }
 {
     let n = x.count;
     let p = x.at;
-    let mut i: usize = 1;
+    let mut i = from;
     loop {
         if n <= i + 1 {
             break true;
@@ -106,18 +107,18 @@ pub fn is_unmarked(s: &[u8], x: Span) -> bool
     }
 }
 
-// No end marker is in a name of the page, or of the log.
-pub fn all_unmarked(page: &[u8]) -> bool
-    requires { ⌜ keepsLayout (now page) ≡ true ⌝ }
-    ensures { λ r. ⌜ r ≡ every unmarked (namesOf (now (page .entry))) ⌝ }
+// No end marker is in a name of the log from its tuple `from` on.
+pub fn all_unmarked(log: &[u8], from: usize) -> bool
+    requires { ⌜ (keepsLayout (now log) ≡ true) × (from ≤ limit) ⌝ }
+    ensures { λ r. ⌜ r ≡ every (unmarkedFrom from) (namesOf (now (log .entry))) ⌝ }
 {
-    let n = page.len() / SLOT;
+    let n = log.len() / SLOT;
     let mut k: usize = 0;
     loop {
         if n <= k {
             break true;
         }
-        if !is_unmarked(page, pages::span_of(page, k)) {
+        if !is_unmarked(log, pages::span_of(log, k), from) {
             break false;
         }
         k += 1;
@@ -133,6 +134,13 @@ fn greater(a: usize, b: usize) -> usize
     if a < b { b } else { a }
 }
 
+// The lesser of two numbers.
+fn lesser(a: usize, b: usize) -> usize
+    ensures { λ r. ⌜ r ≡ min a b ⌝ }
+{
+    if a < b { a } else { b }
+}
+
 // The most tuples of a name of the page, or of the log.
 pub fn deepest(page: &[u8]) -> usize
     ensures { λ r. ⌜ (r ≡ deepestOf (namesOf (now (page .entry)))) × (r ≤ limit) ⌝ }
@@ -146,6 +154,23 @@ pub fn deepest(page: &[u8]) -> usize
         }
         let x = pages::span_of(page, k);
         most = greater(most, x.count);
+        k += 1;
+    }
+}
+
+// The fewest tuples of a name of the page, or of the log; LIMIT where there is none.
+pub fn shallowest(page: &[u8]) -> usize
+    ensures { λ r. ⌜ (r ≡ shallowestOf (namesOf (now (page .entry)))) × (r ≤ limit) ⌝ }
+{
+    let n = page.len() / SLOT;
+    let mut fewest = LIMIT;
+    let mut k: usize = 0;
+    loop {
+        if n <= k {
+            break fewest;
+        }
+        let x = pages::span_of(page, k);
+        fewest = lesser(fewest, x.count);
         k += 1;
     }
 }
@@ -364,8 +389,8 @@ fn against(log: &[u8], k: usize, s: &[u8], v: Span) -> Order
 
 // "If v is below r0 the result is v, else one below r0, then M, then v", with r(k) for r0.
 fn under(log: &[u8], k: usize, s: &[u8], c: Span, cut: usize) -> Back
-    requires { ⌜ (k < length (namesOf (now log))) × Lies (now s) c × (cut ≤ c .count) × (cut ≤ 1) ⌝ }
-    ensures { λ r. ⌜ Means (rowAt (now (s .entry)) c) (namesOf (now (log .entry))) r (underRow (getD (namesOf (now (log .entry))) k []) (drop cut (rowAt (now (s .entry)) c))) ⌝ }
+    requires { ⌜ Lies (now s) c × (cut ≤ c .count) ⌝ }
+    ensures { λ r. ⌜ r ≡ underShape (rowAt (now (s .entry)) c) (namesOf (now (log .entry))) k cut ⌝ }
 {
     match against(log, k, s, without(s, c, cut)) {
         Order::Less => Back::Own(cut),
@@ -376,8 +401,8 @@ fn under(log: &[u8], k: usize, s: &[u8], c: Span, cut: usize) -> Back
 
 // "If v is above r(n−1) the result is v, else r(n−1)·m·v"; k is n − 1.
 fn over(log: &[u8], k: usize, s: &[u8], c: Span, cut: usize) -> Back
-    requires { ⌜ (k < length (namesOf (now log))) × Lies (now s) c × (cut ≤ c .count) × (cut ≤ 1) ⌝ }
-    ensures { λ r. ⌜ Means (rowAt (now (s .entry)) c) (namesOf (now (log .entry))) r (overRow (getD (namesOf (now (log .entry))) k []) (drop cut (rowAt (now (s .entry)) c)) (drop cut (rowAt (now (s .entry)) c))) ⌝ }
+    requires { ⌜ Lies (now s) c × (cut ≤ c .count) ⌝ }
+    ensures { λ r. ⌜ r ≡ overShape (rowAt (now (s .entry)) c) (namesOf (now (log .entry))) k cut ⌝ }
 {
     match against(log, k, s, without(s, c, cut)) {
         Order::Less => Back::Behind(k, cut),
@@ -390,7 +415,7 @@ fn over(log: &[u8], k: usize, s: &[u8], c: Span, cut: usize) -> Back
 // then M, then t. Otherwise t."
 fn between(log: &[u8], k: usize, s: &[u8], c: Span) -> Back
     requires { ⌜ (k + 1 < length (namesOf (now log))) × Lies (now s) c × (1 ≤ c .count) ⌝ }
-    ensures { λ r. ⌜ Means (rowAt (now (s .entry)) c) (namesOf (now (log .entry))) r (backBetween (getD (namesOf (now (log .entry))) k []) (getD (namesOf (now (log .entry))) (k + 1) []) (drop 1 (rowAt (now (s .entry)) c))) ⌝ }
+    ensures { λ r. ⌜ r ≡ betweenShape (rowAt (now (s .entry)) c) (namesOf (now (log .entry))) k ⌝ }
 {
     match against(log, k, s, without(s, c, 1)) {
         Order::Less => Back::Behind(k, 1),
@@ -448,7 +473,7 @@ fn index_of(s: &[u8], c: Span) -> usize
 fn back_within(log: &[u8], author: Author, s: &[u8], c: Span) -> Back
     requires { ⌜ (isLog (now log) ≡ true) × Lies (now s) c ⌝ }
     requires { ⌜ (N (firstPosition (namesOf (now log))) author 0 ≤ⁿ rowAt (now s) c) × (rowAt (now s) c ≤ⁿ N (firstPosition (namesOf (now log))) author (length (namesOf (now log)) - 1)) ⌝ }
-    ensures { λ r. ⌜ Means (rowAt (now (s .entry)) c) (namesOf (now (log .entry))) r (takeBackRow author (namesOf (now (log .entry))) (rowAt (now (s .entry)) c)) ⌝ }
+    ensures { λ r. ⌜ r ≡ withinShape (rowAt (now (s .entry)) c) (namesOf (now (log .entry))) ⌝ }
 {
     let k = index_of(s, c);
     if c.count < 2 {
@@ -460,7 +485,7 @@ fn back_within(log: &[u8], author: Author, s: &[u8], c: Span) -> Back
 // What becomes of c, a name that stands in s.
 pub fn back_of(log: &[u8], author: Author, s: &[u8], c: Span) -> Back
     requires { ⌜ (isLog (now log) ≡ true) × Lies (now s) c ⌝ }
-    ensures { λ r. ⌜ Means (rowAt (now (s .entry)) c) (namesOf (now (log .entry))) r (takeBackRow author (namesOf (now (log .entry))) (rowAt (now (s .entry)) c)) ⌝ }
+    ensures { λ r. ⌜ r ≡ shapeOf author (namesOf (now (log .entry))) (rowAt (now (s .entry)) c) ⌝ }
 {
     let p = first_position(log);
     if is_below(s, c, lead(p, author, 0)) {
@@ -471,6 +496,158 @@ pub fn back_of(log: &[u8], author: Author, s: &[u8], c: Span) -> Back
         return over(log, last, s, c, strip_above(p, author, last, s, c));
     }
     back_within(log, author, s, c)
+}
+
+// ── taking one name back: beside its neighbour ──
+
+// What a name that is taken back is made at: r(k), where it is r(k) itself or is put behind it or ahead of it; else its own tuples. And how many tuples
+// it then has.
+pub struct Stem {
+    pub behind: bool,
+    pub ahead: bool,
+    // The row stands in the log; else where the name stands.
+    pub logged: bool,
+    pub row: Span,
+    pub depth: usize,
+}
+
+// r(k), and so many tuples more.
+fn logged_stem(log: &[u8], k: usize, behind: bool, ahead: bool, more: usize) -> Stem
+    requires { ⌜ more ≤ limit + 1 ⌝ }
+    ensures { λ r. ⌜ (r .behind ≡ behind) × (r .ahead ≡ ahead) × (r .logged ≡ true) × Lies (now (log .entry)) (r .row) × (rowAt (now (log .entry)) (r .row) ≡ getD (namesOf (now (log .entry))) k []) × (r .depth ≡ length (getD (namesOf (now (log .entry))) k []) + more) ⌝ }
+{
+    let row = pages::span_of(log, k);
+    let depth = row.count + more;
+    Stem {
+        behind,
+        ahead,
+        logged: true,
+        row,
+        depth,
+    }
+}
+
+// The stem of c, a name that stands in s, whose shape was found.
+pub fn stem_of(log: &[u8], s: &[u8], c: Span, back: Back) -> Stem
+    requires { ⌜ Lies (now s) c × Stands (rowAt (now s) c) (namesOf (now log)) back ⌝ }
+    ensures { λ r. ⌜ (r .behind ≡ isBehind back) × (r .ahead ≡ isAhead back) × (r .depth ≡ length (shaped (rowAt (now (s .entry)) c) (namesOf (now (log .entry))) back)) ⌝ }
+    ensures { λ r. ⌜ StemLies (now (s .entry)) (now (log .entry)) r × (rowOfStem (now (s .entry)) (now (log .entry)) r ≡ stem (rowAt (now (s .entry)) c) (namesOf (now (log .entry))) back) ⌝ }
+{
+    match back {
+        Back::Restored(k) => logged_stem(log, k, false, false, 0),
+        Back::Own(cut) => {
+            let row = without(s, c, cut);
+            Stem {
+                behind: false,
+                ahead: false,
+                logged: false,
+                row,
+                depth: row.count,
+            }
+        }
+        Back::Behind(k, cut) => logged_stem(log, k, true, false, c.count - cut + 1),
+        Back::Ahead(k, cut) => logged_stem(log, k, false, true, c.count - cut + 1),
+    }
+}
+
+// A row that stands in s has an end marker right behind its first n tuples.
+fn marked_after(s: &[u8], x: Span, n: usize) -> bool
+    requires { ⌜ Lies (now s) x ⌝ }
+    ensures { λ r. ⌜ r ≡ markedAt (rowAt (now (s .entry)) x) n ⌝ }
+{
+    if x.count <= n {
+        return false;
+    }
+    slots::marker_at(s, x.at + TUPLE * n)
+}
+
+// The stem x has one there.
+fn marked_at(log: &[u8], s: &[u8], x: Stem, n: usize) -> bool
+    requires { ⌜ StemLies (now s) (now log) x ⌝ }
+    ensures { λ r. ⌜ r ≡ markedAt (rowOfStem (now (s .entry)) (now (log .entry)) x) n ⌝ }
+{
+    if x.logged {
+        return marked_after(log, x.row, n);
+    }
+    marked_after(s, x.row, n)
+}
+
+// What is put behind x could pass y.
+fn reaches_up(log: &[u8], s: &[u8], x: Stem, y: Stem) -> bool
+    requires { ⌜ StemLies (now s) (now log) x × StemLies (now s) (now log) y ⌝ }
+    ensures { λ r. ⌜ r ≡ (x .behind && markedAt (rowOfStem (now (s .entry)) (now (log .entry)) y) (length (rowOfStem (now (s .entry)) (now (log .entry)) x))) ⌝ }
+{
+    if !x.behind {
+        return false;
+    }
+    let row = x.row;
+    marked_at(log, s, y, row.count)
+}
+
+// What is put ahead of y could pass x.
+fn reaches_down(log: &[u8], s: &[u8], x: Stem, y: Stem) -> bool
+    requires { ⌜ StemLies (now s) (now log) x × StemLies (now s) (now log) y ⌝ }
+    ensures { λ r. ⌜ r ≡ (y .ahead && markedAt (rowOfStem (now (s .entry)) (now (log .entry)) x) (length (rowOfStem (now (s .entry)) (now (log .entry)) y))) ⌝ }
+{
+    if !y.ahead {
+        return false;
+    }
+    let row = y.row;
+    marked_at(log, s, x, row.count)
+}
+
+// Two neighbours, with stems x and y, could change places when they are taken back. Where they could not, they keep their order: that is a theorem,
+// `apart-kept` (proofs/Neighbours.antt; in specs/Laws.antt `apart-kept`), which stands for comparing them.
+pub fn may_meet(log: &[u8], s: &[u8], x: Stem, y: Stem) -> bool
+    requires { ⌜ StemLies (now s) (now log) x × StemLies (now s) (now log) y ⌝ }
+    ensures { λ r. ⌜ r ≡ mayMeet (x .behind) (y .ahead) (rowOfStem (now (s .entry)) (now (log .entry)) x) (rowOfStem (now (s .entry)) (now (log .entry)) y) ⌝ }
+{
+    if reaches_up(log, s, x, y) {
+        return true;
+    }
+    reaches_down(log, s, x, y)
+}
+
+// What becomes of a name is tuples of its own.
+fn is_own(back: Back) -> bool
+    ensures { λ r. ⌜ r ≡ isOwn back ⌝ }
+{
+    match back {
+        Back::Restored(_) => false,
+        Back::Own(_) => true,
+        Back::Behind(_, _) => false,
+        Back::Ahead(_, _) => false,
+    }
+}
+
+// c, a name that stands in s, has no end marker from its tuple `from` on, or is not taken back to tuples of its own.
+fn is_clear(log: &[u8], author: Author, s: &[u8], c: Span, from: usize) -> bool
+    requires { ⌜ (isLog (now log) ≡ true) × Lies (now s) c × (isName (rowAt (now s) c) ≡ true) × (from ≤ limit) ⌝ }
+    ensures { λ r. ⌜ r ≡ clearFrom author (namesOf (now (log .entry))) from (rowAt (now (s .entry)) c) ⌝ }
+{
+    if is_unmarked(s, c, from) {
+        return true;
+    }
+    !is_own(back_of(log, author, s, c))
+}
+
+// So it is of every name of the page. Where the log has none from there on either, and no name of fewer tuples, no two names could meet: that is a theorem,
+// `clear-kept` (proofs/Neighbours.antt; in specs/Laws.antt `clear-kept`).
+pub fn all_clear(page: &[u8], log: &[u8], author: Author, from: usize) -> bool
+    requires { ⌜ (keepsLayout (now page) ≡ true) × (isLog (now log) ≡ true) × (from ≤ limit) ⌝ }
+    ensures { λ r. ⌜ r ≡ every (clearFrom author (namesOf (now (log .entry))) from) (namesOf (now (page .entry))) ⌝ }
+{
+    let n = page.len() / SLOT;
+    let mut k: usize = 0;
+    loop {
+        if n <= k {
+            break true;
+        }
+        if !is_clear(log, author, page, pages::span_of(page, k), from) {
+            break false;
+        }
+        k += 1;
+    }
 }
 
 // ── taking one name back: alone ──

@@ -2,7 +2,7 @@
 // becomes of one name is that of crates/name_renames, by crates/one_name.
 ghost use mathlib.Core.Path.{_≡_};
 ghost use mathlib.Core.List.{[], flatten};
-ghost use mathlib.Core.Bool.{true, _&&_, _||_};
+ghost use mathlib.Core.Bool.{true, false, _&&_, _||_};
 ghost use Prim.Native.Nat.{_+_, _-_, _*_, _/_, _≤_, _<_};
 ghost use lib.Dec.{leb, ltb};
 ghost use lib.ListN.{length, getD};
@@ -15,15 +15,15 @@ ghost use Rattle.pages.specs.Pages.{keepsLayout, partsOf, slotsOf, namesOf, pie
 ghost use Rattle.answers.specs.Answers.{ask, inOrder, leaves};
 ghost use Rattle.name_renames.specs.Renaming.{rename as renameRow, takeBack as takeBackRow, fresh};
 ghost use Rattle.name_renames.specs.Alone.{alone as isAlone};
-ghost use Rattle.one_name.specs.Backs.{shaped, deepestOf};
-ghost use Rattle.one_name.specs.Markers.{unmarked};
-ghost use Rattle.renamed_slots.specs.Ready.{Ready};
+ghost use Rattle.one_name.specs.Backs.{deepestOf, shallowestOf};
+ghost use Rattle.one_name.specs.Stems.{clearFrom, mayMeet, rowOfStem, StemLies};
+ghost use Rattle.one_name.specs.Markers.{unmarkedFrom};
 ghost use Rattle.page_renames.specs.Renames.{carry, carried, allFit, openingTests, renameTests, takeBackTests, renameOutcome, takeBackOutcome};
 use answers::Answer;
 use answers::Refusal;
 use names::Author;
 use names::LIMIT;
-use one_name::Back;
+use one_name::Stem;
 use slots::HEAD;
 use slots::SLOT;
 use slots::Seen;
@@ -194,37 +194,34 @@ fn check_rename(page: &[u8], log: &[u8], author: Author) -> Checked
     Checked::Passed
 }
 
-// Slot i is taken back to a name above that of the slot before it. Where neither of the two names nor the log has an end marker (`plain`) there is
-// nothing to test: that the order is kept then is a theorem, `takeBack-mono` (name_renames/proofs/Backward.antt; in specs/Laws.antt `order-kept`).
-fn pair_rises(page: &[u8], log: &[u8], plain: bool, i: usize, last: Back, back: Back) -> bool
+// Slot i is taken back to a name above that of the slot before it.
+fn pair_rises(page: &[u8], log: &[u8], author: Author, i: usize) -> bool
     requires { ⌜ (keepsLayout (now page) ≡ true) × (isLog (now log) ≡ true) × (1 ≤ i) × (i < length (namesOf (now page))) ⌝ }
-    requires { ⌜ Ready (getD (namesOf (now page)) (i - 1) []) (namesOf (now log)) last × Ready (getD (namesOf (now page)) i []) (namesOf (now log)) back ⌝ }
-    requires { ⌜ (plain ≡ true → isLess (compareRows (shaped (getD (namesOf (now page)) (i - 1) []) (namesOf (now log)) last) (shaped (getD (namesOf (now page)) i []) (namesOf (now log)) back)) ≡ true) ⌝ }
-    ensures { λ r. ⌜ r ≡ isLess (compareRows (shaped (getD (namesOf (now (page .entry))) (i - 1) []) (namesOf (now (log .entry))) last) (shaped (getD (namesOf (now (page .entry))) i []) (namesOf (now (log .entry))) back)) ⌝ }
+    ensures { λ r. ⌜ r ≡ isLess (compareRows (takeBackRow author (namesOf (now (log .entry))) (getD (namesOf (now (page .entry))) (i - 1) [])) (takeBackRow author (namesOf (now (log .entry))) (getD (namesOf (now (page .entry))) i []))) ⌝ }
 {
-    if plain {
-        return true;
-    }
     let before = SLOT * (i - 1);
     let at = before + SLOT;
     let end = at + SLOT;
-    renamed_slots::backs_rise(&page[before..at], last, &page[at..end], back, log)
+    let last = one_name::back_of(log, author, page, pages::span_of(page, i - 1));
+    let here = one_name::back_of(log, author, page, pages::span_of(page, i));
+    renamed_slots::backs_rise(&page[before..at], last, &page[at..end], here, log)
 }
 
-// It went so before, and slot i, where it is not the first, rises too.
+// It went so before, and slot i, where it is not the first, rises too. The two names are compared only where a marker stands so that they could meet:
+// elsewhere they rise by a theorem, `apart-kept` (one_name/proofs/Neighbours.antt; in specs/Laws.antt `apart-kept`).
 fn still_rises(
     page: &[u8],
     log: &[u8],
-    plain: bool,
+    author: Author,
     rises: bool,
     i: usize,
-    last: Back,
-    back: Back,
+    last: Stem,
+    here: Stem,
 ) -> bool
     requires { ⌜ (keepsLayout (now page) ≡ true) × (isLog (now log) ≡ true) × (i < length (namesOf (now page))) ⌝ }
-    requires { ⌜ (1 ≤ i → Ready (getD (namesOf (now page)) (i - 1) []) (namesOf (now log)) last) × Ready (getD (namesOf (now page)) i []) (namesOf (now log)) back ⌝ }
-    requires { ⌜ (1 ≤ i → plain ≡ true → isLess (compareRows (shaped (getD (namesOf (now page)) (i - 1) []) (namesOf (now log)) last) (shaped (getD (namesOf (now page)) i []) (namesOf (now log)) back)) ≡ true) ⌝ }
-    ensures { λ r. ⌜ r ≡ (rises && (ltb i 1 || isLess (compareRows (shaped (getD (namesOf (now (page .entry))) (i - 1) []) (namesOf (now (log .entry))) last) (shaped (getD (namesOf (now (page .entry))) i []) (namesOf (now (log .entry))) back)))) ⌝ }
+    requires { ⌜ (1 ≤ i → StemLies (now page) (now log) last) × StemLies (now page) (now log) here ⌝ }
+    requires { ⌜ (1 ≤ i → mayMeet (last .behind) (here .ahead) (rowOfStem (now page) (now log) last) (rowOfStem (now page) (now log) here) ≡ false → isLess (compareRows (takeBackRow author (namesOf (now log)) (getD (namesOf (now page)) (i - 1) [])) (takeBackRow author (namesOf (now log)) (getD (namesOf (now page)) i []))) ≡ true) ⌝ }
+    ensures { λ r. ⌜ r ≡ (rises && (ltb i 1 || isLess (compareRows (takeBackRow author (namesOf (now (log .entry))) (getD (namesOf (now (page .entry))) (i - 1) [])) (takeBackRow author (namesOf (now (log .entry))) (getD (namesOf (now (page .entry))) i []))))) ⌝ }
 {
     if !rises {
         return false;
@@ -232,14 +229,10 @@ fn still_rises(
     if i < 1 {
         return true;
     }
-    pair_rises(page, log, plain, i, last, back)
-}
-
-// Both hold.
-fn both(a: bool, b: bool) -> bool
-    ensures { λ r. ⌜ r ≡ (a && b) ⌝ }
-{
-    if a { b } else { false }
+    if !one_name::may_meet(log, page, last, here) {
+        return true;
+    }
+    pair_rises(page, log, author, i)
 }
 
 // 7, where the results do not rise.
@@ -252,33 +245,33 @@ fn check_rising(rises: bool) -> Checked
     Checked::Passed
 }
 
-// 6, 7 of any page: one walk along it, which keeps what became of the name before, and whether it and the log have no end marker.
+// 6, 7 of any page: one walk along it, which keeps the stem of the name before.
 fn check_back(page: &[u8], log: &[u8], author: Author) -> Checked
     requires { ⌜ inOrder (openingTests (now page) (now log) author) Checked.Refused Checked.Passed ≡ Checked.Passed ⌝ }
     ensures { λ r. ⌜ r ≡ inOrder (takeBackTests (now (page .entry)) (now (log .entry)) author) Checked.Refused Checked.Passed ⌝ }
 {
     let n = page.len() / SLOT;
-    let unmarked = one_name::all_unmarked(log);
-    let mut last = Back::Own(0);
-    let mut last_unmarked = unmarked;
+    let mut last = Stem {
+        behind: false,
+        ahead: false,
+        logged: false,
+        row: Span { at: 0, count: 0 },
+        depth: 0,
+    };
     let mut rises = true;
     let mut i: usize = 0;
     loop {
         if n <= i {
             break check_rising(rises);
         }
-        let at = SLOT * i;
-        let end = at + SLOT;
         let c = pages::span_of(page, i);
         let back = one_name::back_of(log, author, page, c);
-        if !renamed_slots::back_fits(&page[at..end], log, back) {
+        let here = one_name::stem_of(log, page, c, back);
+        if LIMIT < here.depth {
             break Checked::Refused(Refusal::TooDeep);
         }
-        let here_unmarked = both(unmarked, one_name::is_unmarked(page, c));
-        let plain = both(last_unmarked, here_unmarked);
-        rises = still_rises(page, log, plain, rises, i, last, back);
-        last = back;
-        last_unmarked = here_unmarked;
+        rises = still_rises(page, log, author, rises, i, last, here);
+        last = here;
         i += 1;
     }
 }
@@ -301,23 +294,25 @@ fn all_alone(page: &[u8], log: &[u8], author: Author) -> bool
     }
 }
 
-// No name of page and log has an end marker, and none is so deep that it could come to have more than LIMIT tuples.
-fn is_clear(page: &[u8], log: &[u8]) -> bool
+// No name of the log has an end marker behind as many tuples as every name of the log has, and no name of the page that is taken back to tuples of its own,
+// so that no two names could meet; and none is so deep that it could come to have more than LIMIT tuples.
+fn is_clear(page: &[u8], log: &[u8], author: Author) -> bool
     requires { ⌜ (keepsLayout (now page) ≡ true) × (isLog (now log) ≡ true) ⌝ }
-    ensures { λ r. ⌜ r ≡ (leb (deepestOf (namesOf (now (log .entry))) + 1 + deepestOf (namesOf (now (page .entry)))) limit && every unmarked (namesOf (now (log .entry))) && every unmarked (namesOf (now (page .entry)))) ⌝ }
+    ensures { λ r. ⌜ r ≡ (every (unmarkedFrom (shallowestOf (namesOf (now (log .entry))))) (namesOf (now (log .entry))) && every (clearFrom author (namesOf (now (log .entry))) (shallowestOf (namesOf (now (log .entry))))) (namesOf (now (page .entry))) && leb (deepestOf (namesOf (now (log .entry))) + 1 + deepestOf (namesOf (now (page .entry)))) limit) ⌝ }
 {
-    if LIMIT < one_name::deepest(log) + 1 + one_name::deepest(page) {
+    let from = one_name::shallowest(log);
+    if !one_name::all_unmarked(log, from) {
         return false;
     }
-    if !one_name::all_unmarked(log) {
+    if !one_name::all_clear(page, log, author, from) {
         return false;
     }
-    one_name::all_unmarked(page)
+    one_name::deepest(log) + 1 + one_name::deepest(page) <= LIMIT
 }
 
 // 6, 7, where a theorem does not answer both for the whole page. If every name is taken back alone, each has at most LIMIT tuples and they rise, markers
 // or not: `alone-fits` and `alone-mono` (name_renames/proofs/Alone.antt; in specs/Laws.antt `alone-is` and `alone-kept`). If page and log are clear, so
-// it is by `back-depth` (name_renames/proofs/BackDepth.antt) and `takeBack-mono` (name_renames/proofs/Backward.antt; in specs/Laws.antt `order-kept`).
+// it is by `back-depth` (name_renames/proofs/BackDepth.antt) and `clear-kept` (one_name/proofs/Neighbours.antt; in specs/Laws.antt `clear-kept`).
 fn check_names(page: &[u8], log: &[u8], author: Author, alone: bool) -> Checked
     requires { ⌜ inOrder (openingTests (now page) (now log) author) Checked.Refused Checked.Passed ≡ Checked.Passed ⌝ }
     requires { ⌜ (alone ≡ true → every (isAlone author (namesOf (now log))) (namesOf (now page)) ≡ true) ⌝ }
@@ -326,7 +321,7 @@ fn check_names(page: &[u8], log: &[u8], author: Author, alone: bool) -> Checked
     if alone {
         return Checked::Passed;
     }
-    if is_clear(page, log) {
+    if is_clear(page, log, author) {
         return Checked::Passed;
     }
     check_back(page, log, author)

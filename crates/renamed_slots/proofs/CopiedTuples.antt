@@ -1,20 +1,28 @@
--- The tuples of a slot copied with the zeros after them (`run`); pieces written one after the other (`put-two`), after a slot's head a
--- slot (`slot-of`). Assumes nothing.
+-- The tuples of a slot copied with the zeros after them (`run`), of a slot of the log too (`logged-run`); pieces written one after the other (`put-two`),
+-- or over the last bytes of one (`put-over`), after a slot's head a slot (`slot-of`). Assumes nothing.
 use mathlib.Core.Path.{_≡_, refl, _∙_, sym, ap}
+use mathlib.Core.Bool.{true}
 use mathlib.Core.List.{[], _∷_, _++_, append-assoc}
-use Prim.Native.Nat.{ℕ, zero, suc, _+_, _-_, _*_, _≤_}
+use Prim.Native.Nat.{ℕ, zero, suc, _+_, _-_, _*_, _/_, _≤_, _<_}
 use native.Mathlib.Omega.{arith}
-use lib.ListN.{length, take, drop, replicate, length-append, length-drop, replicate-append-replicate}
+use lib.ListN.{length, take, drop, getD, replicate, length-append, length-take, length-drop, replicate-append-replicate}
+use lib.Seq.{take-add, take-take, drop-at, drop-drop}
 use Rattle.names.specs.Ordering.{Row}
 use Rattle.names.specs.Names.{limit, m}
 use Rattle.numbers.specs.Bytes.{Bytes, Octets, allZero, bytes32, put}
 use Rattle.numbers.proofs.Lists.{next-to}
-use Rattle.numbers.proofs.Put.{put-more}
+use Rattle.numbers.proofs.Octets.{octets-take, octets-drop}
+use Rattle.numbers.proofs.Put.{put-put, put-more, put-length}
 use Rattle.numbers.proofs.Zeros.{all-zeros}
 use Rattle.slots.specs.Tuples.{tupleSize, tuplesAt, rowBytes}
 use Rattle.slots.specs.Slots.{headSize, slotSize, depthOf, nameOf, bytesOver, slotBytes}
 use Rattle.slots.proofs.TuplesInBytes.{take-tuplesAt, drop-tuplesAt, length-tuplesAt}
-use Rattle.slots.proofs.RoundTrip.{Kept, here-row}
+use Rattle.slots.proofs.CopiedTuples.{later-first}
+use Rattle.slots.proofs.RoundTrip.{Kept, kept, here-row}
+use Rattle.pages.specs.Pages.{namesOf, isLog}
+use Rattle.pages.proofs.SlotBySlot.{lent, lent-keeps, lent-name}
+use Rattle.pages.proofs.RoundTrip.{laid}
+use Rattle.one_name.proofs.CheckedLog.{logged}
 
 -- ── of a slot that keeps the layout ──
 
@@ -52,6 +60,47 @@ module _ (s : Bytes) (o : Octets s) (v : Kept s) where
       ∙ sym (next-to s q m r)
       ∙ (λ i. (sym (here-row s o q (d - j) w) ∙ tuples) i ++ zeros-after (q + m) r (omega arith) (omega arith) i)
 
+-- ── of slot k of the log ──
+
+module _ (log : Bytes) (o : Octets log) (k : ℕ) (e : isLog log ≡ true) (h : k < length (namesOf log)) where
+  abbrev slot : Bytes
+  slot = lent log (slotSize * k)
+
+  within : k < length log / slotSize
+  within = omega (arith, h, logged log e .count)
+
+  slot-kept : Kept slot
+  slot-kept = kept slot (lent-keeps limit log (length log / slotSize) k within (laid log (logged log e .layout) .good))
+
+  slot-name : nameOf slot ≡ getD (namesOf log) k []
+  slot-name = lent-name log (length log / slotSize) k (slotSize * k) refl within
+
+  slot-octets : Octets slot
+  slot-octets = octets-take (slotSize * k + slotSize - slotSize * k) (drop (slotSize * k) log) (octets-drop (slotSize * k) log o)
+
+  slot-depth : depthOf slot ≡ length (getD (namesOf log) k [])
+  slot-depth = sym (name-length slot slot-octets slot-kept) ∙ ap length slot-name
+
+  -- all its n bytes from the tuples on
+  pub logged-run : (n : ℕ) → n ≡ slotSize - headSize →
+      take n (drop (slotSize * k + headSize) log) ≡ rowBytes (getD (namesOf log) k []) ++ replicate (tupleSize * (limit - length (getD (namesOf log) k []))) 0
+  logged-run n b =
+      let at = drop (slotSize * k) log in
+      let l : length (take headSize at) ≡ headSize = simp (length-take, length-drop) (omega (arith, within)) in
+      let w : slotSize * k + slotSize - slotSize * k ≡ headSize + n = omega arith in
+      let fit = slot-kept .fit in
+      let d = slot-depth in
+      let zeros : n - tupleSize * (depthOf slot - 0) ≡ tupleSize * (limit - length (getD (namesOf log) k [])) = omega arith in
+      let inside : drop headSize slot ≡ take n (drop headSize at) =
+      ap (λ (j : ℕ). drop headSize (take j at)) w
+      ∙ ap (drop headSize) (take-add headSize n at)
+      ∙ drop-at (take headSize at) (take n (drop headSize at)) headSize l in
+      ap (take n) (sym (drop-drop headSize (slotSize * k) log))
+      ∙ sym (take-take n n (drop headSize at) (omega arith))
+      ∙ ap (take n) (sym inside)
+      ∙ run slot slot-octets slot-kept 0 n (omega arith) (omega arith) (omega arith)
+      ∙ (λ i. rowBytes (slot-name i) ++ replicate (zeros i) 0)
+
 -- ── what is written ──
 
 module _ (o : Bytes) (p : ℕ) (h : p ≤ length o) where
@@ -61,6 +110,21 @@ module _ (o : Bytes) (p : ℕ) (h : p ≤ length o) where
       let n = length-append a b in
       let i : r ≡ p + length (a ++ b) = omega arith in
       put-more o p h (a ++ b) c (put-more o p h a b e f g) i l ∙ ap (put o p) (append-assoc a b c)
+
+  -- w and x, and then y over x: what it does not reach of x stays
+  pub put-over : (w x y : Bytes) {d e : Bytes} {q : ℕ} → p + length w ≤ length o → d ≡ put o p (w ++ x) → q ≡ p + length w → e ≡ put d q y → e ≡ put o p (w ++ (y ++ drop (length y) x))
+  put-over w x y k a b c =
+      let q = p + length w in
+      let first = put o p w in
+      let l = put-length o p h w k in
+      let f : q ≡ q + 0 = omega arith in
+      let g : length y - 0 ≡ length y = omega arith in
+      c
+      ∙ (λ i. put ((a ∙ sym (put-put o p h w x)) i) (b i) y)
+      ∙ ap (λ (j : ℕ). put (put first j x) q y) f
+      ∙ later-first first q (omega arith) 0 x y (omega arith) (omega arith)
+      ∙ ap (λ (j : ℕ). put first q (y ++ drop j x)) g
+      ∙ put-put o p h w (y ++ drop (length y) x)
 
   -- the head, and then the tuples and the zeros up to the end of the slot
   pub slot-of : (line : ℕ) (a : Row) {d : ℕ} {w z : Bytes} → d ≡ length a → w ≡ rowBytes a ++ replicate (tupleSize * (limit - length a)) 0 →

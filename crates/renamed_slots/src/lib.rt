@@ -6,7 +6,7 @@ ghost use mathlib.Core.Bool.{true};
 ghost use mathlib.Core.List.{[], _∷_, _++_};
 ghost use Prim.Native.Nat.{_+_, _-_, _≤_, _<_};
 ghost use lib.ListN.{length, take, drop, getD};
-ghost use Rattle.names.specs.Ordering.{compareℤ, compareTuples, compareRows, isLess};
+ghost use Rattle.names.specs.Ordering.{compareRows, isLess};
 ghost use Rattle.names.specs.Names.{limit, fits, oneBelow, m, M};
 ghost use Rattle.numbers.specs.Bytes.{put};
 ghost use Rattle.slots.specs.Tuples.{rowAt, Lies};
@@ -14,8 +14,7 @@ ghost use Rattle.slots.specs.Slots.{slotSize, depthOf, lineOf, nameOf, keepsSlo
 ghost use Rattle.pages.specs.Pages.{namesOf, isLog};
 ghost use Rattle.one_name.specs.Changes.{changedBy};
 ghost use Rattle.one_name.specs.Backs.{shaped, Stands, single as asBack};
-ghost use Rattle.renamed_slots.specs.Ready.{Ready};
-use names::LIMIT;
+ghost use Rattle.renamed_slots.specs.Joints.{belowIf, markerIf, joint as jointBack};
 use names::Order;
 use names::Tuple;
 use one_name::Back;
@@ -28,6 +27,13 @@ use slots::TUPLE;
 
 // Where the last tuple of a slot stands.
 const LAST: usize = SLOT - TUPLE;
+
+// "r(k)·m·v", or where r(k) is lowered "one below r(k), then M, then v"; v is the name without its first `cut` tuples.
+struct Joint {
+    k: usize,
+    cut: usize,
+    lowered: bool,
+}
 
 // ── renamed ──
 
@@ -183,18 +189,10 @@ fn tuple_back(slot: &[u8], log: &[u8], back: Back, i: usize) -> Tuple
 
 // ── taken back: before it is written ──
 
-// The name taken back has at most LIMIT tuples.
-pub fn back_fits(slot: &[u8], log: &[u8], back: Back) -> bool
-    requires { ⌜ (keepsSlot (now slot) ≡ true) × (isLog (now log) ≡ true) × Stands (nameOf (now slot)) (namesOf (now log)) back ⌝ }
-    ensures { λ r. ⌜ r ≡ fits (shaped (nameOf (now (slot .entry))) (namesOf (now (log .entry))) back) ⌝ }
-{
-    count_back(slot, log, back) <= LIMIT
-}
-
 // The name that a slot is taken back to is below that of another: "Names compare at the first tuple that differs; a proper prefix is smaller".
 pub fn backs_rise(first: &[u8], a: Back, second: &[u8], b: Back, log: &[u8]) -> bool
     requires { ⌜ (keepsSlot (now first) ≡ true) × (keepsSlot (now second) ≡ true) × (isLog (now log) ≡ true) ⌝ }
-    requires { ⌜ Ready (nameOf (now first)) (namesOf (now log)) a × Ready (nameOf (now second)) (namesOf (now log)) b ⌝ }
+    requires { ⌜ Stands (nameOf (now first)) (namesOf (now log)) a × Stands (nameOf (now second)) (namesOf (now log)) b ⌝ }
     ensures { λ r. ⌜ r ≡ isLess (compareRows (shaped (nameOf (now (first .entry))) (namesOf (now (log .entry))) a) (shaped (nameOf (now (second .entry))) (namesOf (now (log .entry))) b)) ⌝ }
 {
     let n = count_back(first, log, a);
@@ -261,7 +259,8 @@ fn write_own(out: &mut [u8], p: usize, slot: &[u8], cut: usize)
     }
 }
 
-// The names that are joined of two: the tuples of r(k) but the last, then `last` and `marker`, then the tuples of v. Rows are copied as bytes.
+// The names that are joined of two: the tuples of r(k) but the last, then `last` and `marker`, then the tuples of v. The tuples of r(k) are copied with
+// the zeros after them: a copy of one size, whatever the depth. The rest is written over them.
 fn write_joined(
     out: &mut [u8],
     p: usize,
@@ -273,7 +272,7 @@ fn write_joined(
     marker: Tuple,
 )
     requires { ⌜ (p + slotSize ≤ length (now out)) × (keepsSlot (now slot) ≡ true) × (cut ≤ length (nameOf (now slot))) ⌝ }
-    requires { ⌜ (1 ≤ length (getD (namesOf (now log)) k [])) × (length (getD (namesOf (now log)) k []) + 1 + length (drop cut (nameOf (now slot))) ≤ limit) ⌝ }
+    requires { ⌜ (isLog (now log) ≡ true) × (k < length (namesOf (now log))) × (length (getD (namesOf (now log)) k []) + 1 + length (drop cut (nameOf (now slot))) ≤ limit) ⌝ }
     ensures { λ _. ⌜ now (out .exit) ≡ put (now (out .entry)) p (slotBytes (record { line = lineOf (now (slot .entry)); name = take (length (getD (namesOf (now (log .entry))) k []) - 1) (getD (namesOf (now (log .entry))) k []) ++ (last ∷ marker ∷ drop cut (nameOf (now (slot .entry)))) })) ⌝ }
 {
     let r = pages::span_of(log, k);
@@ -281,34 +280,46 @@ fn write_joined(
     let first = r.count - 1;
     let count = r.count + 1 + v.count;
     let end = p + HEAD + TUPLE * first;
+    let from = SLOT * k + HEAD;
+    let to = SLOT * k + SLOT;
     slots::write_head(out, p, count, slots::read_line(slot));
-    slots::copy_row(out, p + HEAD, log, r.at, first);
+    numbers::copy(out, p + HEAD, &log[from..to]);
     slots::write_tuple(out, end, last);
     slots::write_tuple(out, end + TUPLE, marker);
     slots::copy_row(out, end + TUPLE + TUPLE, slot, v.at, v.count);
-    slots::write_rest(out, p, count);
 }
 
-// r(k)·m·v
-fn write_behind(out: &mut [u8], p: usize, slot: &[u8], cut: usize, log: &[u8], k: usize)
-    requires { ⌜ (p + slotSize ≤ length (now out)) × (keepsSlot (now slot) ≡ true) × (cut ≤ length (nameOf (now slot))) ⌝ }
-    requires { ⌜ (isLog (now log) ≡ true) × (k < length (namesOf (now log))) × (fits (getD (namesOf (now log)) k [] ++ (m ∷ drop cut (nameOf (now slot)))) ≡ true) ⌝ }
-    ensures { λ _. ⌜ now (out .exit) ≡ put (now (out .entry)) p (slotBytes (record { line = lineOf (now (slot .entry)); name = getD (namesOf (now (log .entry))) k [] ++ (m ∷ drop cut (nameOf (now (slot .entry)))) })) ⌝ }
+// The last tuple of r(k), or of one below r(k).
+fn last_of(log: &[u8], k: usize, lowered: bool) -> Tuple
+    requires { ⌜ (isLog (now log) ≡ true) × (k < length (namesOf (now log))) ⌝ }
+    ensures { λ t. ⌜ t ≡ getD (belowIf lowered (getD (namesOf (now (log .entry))) k [])) (length (getD (namesOf (now (log .entry))) k []) - 1) m ⌝ }
 {
     let r = pages::span_of(log, k);
-    let last = tuple_of(log, r, r.count - 1);
-    write_joined(out, p, slot, cut, log, k, last, name_values::low_marker());
+    let last = r.count - 1;
+    if lowered {
+        return tuple_lower(log, k, r, last);
+    }
+    tuple_of(log, r, last)
 }
 
-// One below r(k), then M, then v.
-fn write_ahead(out: &mut [u8], p: usize, slot: &[u8], cut: usize, log: &[u8], k: usize)
-    requires { ⌜ (p + slotSize ≤ length (now out)) × (keepsSlot (now slot) ≡ true) × (cut ≤ length (nameOf (now slot))) ⌝ }
-    requires { ⌜ (isLog (now log) ≡ true) × (k < length (namesOf (now log))) × (fits (oneBelow (getD (namesOf (now log)) k []) ++ (M ∷ drop cut (nameOf (now slot)))) ≡ true) ⌝ }
-    ensures { λ _. ⌜ now (out .exit) ≡ put (now (out .entry)) p (slotBytes (record { line = lineOf (now (slot .entry)); name = oneBelow (getD (namesOf (now (log .entry))) k []) ++ (M ∷ drop cut (nameOf (now (slot .entry)))) })) ⌝ }
+// m, or M where r(k) is lowered.
+fn marker_of(lowered: bool) -> Tuple
+    ensures { λ t. ⌜ t ≡ markerIf lowered ⌝ }
 {
-    let r = pages::span_of(log, k);
-    let last = tuple_lower(log, k, r, r.count - 1);
-    write_joined(out, p, slot, cut, log, k, last, name_values::high_marker());
+    if lowered {
+        return name_values::high_marker();
+    }
+    name_values::low_marker()
+}
+
+// r(k)·m·v, or one below r(k), then M, then v: in one function, so that `write_joined` has one caller and becomes part of the loop over the slots.
+fn write_joint(out: &mut [u8], p: usize, slot: &[u8], log: &[u8], joint: Joint)
+    requires { ⌜ (p + slotSize ≤ length (now out)) × (keepsSlot (now slot) ≡ true) × (isLog (now log) ≡ true) × Stands (nameOf (now slot)) (namesOf (now log)) (jointBack joint) × (fits (shaped (nameOf (now slot)) (namesOf (now log)) (jointBack joint)) ≡ true) ⌝ }
+    ensures { λ _. ⌜ now (out .exit) ≡ put (now (out .entry)) p (slotBytes (record { line = lineOf (now (slot .entry)); name = shaped (nameOf (now (slot .entry))) (namesOf (now (log .entry))) (jointBack joint) })) ⌝ }
+{
+    let last = last_of(log, joint.k, joint.lowered);
+    let marker = marker_of(joint.lowered);
+    write_joined(out, p, slot, joint.cut, log, joint.k, last, marker);
 }
 
 // The slot from p on, its name taken back.
@@ -316,12 +327,27 @@ pub fn write_back(out: &mut [u8], p: usize, slot: &[u8], log: &[u8], back: Back)
     requires { ⌜ (p + slotSize ≤ length (now out)) × (keepsSlot (now slot) ≡ true) × (isLog (now log) ≡ true) × Stands (nameOf (now slot)) (namesOf (now log)) back × (fits (shaped (nameOf (now slot)) (namesOf (now log)) back) ≡ true) ⌝ }
     ensures { λ _. ⌜ now (out .exit) ≡ put (now (out .entry)) p (slotBytes (record { line = lineOf (now (slot .entry)); name = shaped (nameOf (now (slot .entry))) (namesOf (now (log .entry))) back })) ⌝ }
 {
-    match back {
-        Back::Restored(k) => write_restored(out, p, slot, log, k),
-        Back::Own(cut) => write_own(out, p, slot, cut),
-        Back::Behind(k, cut) => write_behind(out, p, slot, cut, log, k),
-        Back::Ahead(k, cut) => write_ahead(out, p, slot, cut, log, k),
-    }
+    let joint = match back {
+        Back::Restored(k) => {
+            write_restored(out, p, slot, log, k);
+            return;
+        }
+        Back::Own(cut) => {
+            write_own(out, p, slot, cut);
+            return;
+        }
+        Back::Behind(k, cut) => Joint {
+            k,
+            cut,
+            lowered: false,
+        },
+        Back::Ahead(k, cut) => Joint {
+            k,
+            cut,
+            lowered: true,
+        },
+    };
+    write_joint(out, p, slot, log, joint);
 }
 
 // The slot from p on, its name taken back alone.

@@ -11,7 +11,7 @@ use Rattle.slots.proofs.TuplesInBytes.{length-tuplesAt}
 use Rattle.pages.specs.Pages.{namesOf}
 use Rattle.pages.proofs.SlotBySlot.{length-names}
 use Rattle.one_name.specs.Backs.{deepestOf}
-use Rattle.one_name.proofs.DeepestName.{deepest-on, deepest-end}
+use Rattle.one_name.proofs.Depths.{deepest-on, deepest-end}
 use borrow.Author.Needs.{needs}
 use Rattle.one_name.proofs.deepest.Statement.{statement}
 use Rattle.one_name.proofs.deepest.Tie as tie

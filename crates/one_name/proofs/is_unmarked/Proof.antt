@@ -1,5 +1,5 @@
 -- `one_name::is_unmarked` meets its contract. Assumes nothing.
-use mathlib.Core.Path.{_≡_, _∙_, sym, ap}
+use mathlib.Core.Path.{_≡_, refl, _∙_, sym, ap}
 use mathlib.Core.Bool.{Bool, not, _&&_}
 use Prim.Native.Nat.{ℕ, _+_, _-_, _*_, _≤_, _<_}
 use native.Mathlib.Omega.{arith}
@@ -12,17 +12,17 @@ use Rattle.numbers.specs.Bytes.{Bytes}
 use Rattle.numbers.proofs.Every.{every-at}
 use Rattle.slots.specs.Tuples.{tupleAt, tuplesAt, rowAt, tupleSize}
 use Rattle.slots.proofs.TuplesInBytes.{length-tuplesAt, getD-tuplesAt}
-use Rattle.one_name.specs.Markers.{unmarked}
-use Rattle.one_name.proofs.Unmarked.{after-first, last-free}
+use Rattle.one_name.specs.Markers.{unmarked, unmarkedFrom}
+use Rattle.one_name.proofs.Unmarked.{last-free}
 use borrow.Author.Needs.{needs}
 use Rattle.one_name.proofs.is_unmarked.Statement.{statement}
 use Rattle.one_name.proofs.is_unmarked.Tie as tie
 
 abbrev Inv-loop : tie.InvT-loop
-Inv-loop s n p i₀ i = (i ≤ limit) × (p + tupleSize * n ≤ length s) × (unmarked (drop i (tuplesAt s p n)) ≡ unmarked (tuplesAt s p n))
+Inv-loop s from n p i₀ i = (i ≤ limit) × (p + tupleSize * n ≤ length s) × (unmarked (drop i (tuplesAt s p n)) ≡ unmarkedFrom from (tuplesAt s p n))
 
 abbrev μ-loop : tie.MeasureT-loop
-μ-loop s n p i₀ i = n - i
+μ-loop s from n p i₀ i = n - i
 
 -- what the test of tuple i says of the tuples from there on
 turn : (s : Bytes) (p n i : ℕ) {r : Bool} → i < n → r ≡ marker (tupleAt s (p + tupleSize * i)) →
@@ -34,7 +34,7 @@ turn s p n i h e =
 loop-holds : tie.Need-loop-holds Inv-loop μ-loop
 loop-holds c =
     let start : tie.Start Inv-loop μ-loop = search needs in
-    (omega arith, start .pre .0 .0, after-first (name-valid (rowAt (now (start .args .s)) (start .args .x)) (start .pre .1)))
+    (start .pre .2, start .pre .0 .0, refl)
 
 add-if1 : tie.Need-add-if1 Inv-loop μ-loop
 add-if1 c = omega arith

@@ -15,8 +15,9 @@ use Rattle.pages.proofs.SlotBySlot.{lent, lent-part}
 use Rattle.name_renames.specs.Renaming.{takeBack}
 use Rattle.name_renames.specs.Alone.{alone}
 use Rattle.one_name.specs.declared.Back.{Back}
-use Rattle.one_name.specs.Backs.{shaped, Stands, Means, single}
+use Rattle.one_name.specs.Backs.{shaped, Means, single}
 use Rattle.page_renames.specs.Renames.{carry}
+use Rattle.page_renames.proofs.BackPairs.{means}
 use Rattle.page_renames.proofs.PageWalk.{name-lent, keeps-lent}
 use borrow.Author.Needs.{needs}
 use Rattle.page_renames.proofs.write_one_back.Statement.{statement}
@@ -99,7 +100,8 @@ write-back-requires c κs =
     let a = start .args in
     let f = takeBack (a .author) (namesOf (now (a .log))) in
     let h = start .pre .0 .2 in
-    let m = of-slot (now (a .page)) (now (a .log)) (a .author) (a .i) h (after-back-of .back-of .result) (after-span-of .span-of .ensures .1) (after-back-of .back-of .ensures) in
+    let found = means (now (a .log)) (a .author) (start .pre .0 .1) (after-back-of .back-of .result) (after-back-of .back-of .ensures) refl in
+    let m = of-slot (now (a .page)) (now (a .log)) (a .author) (a .i) h (after-back-of .back-of .result) (after-span-of .span-of .ensures .1) found in
     let fit = ap (λ (x : Row). fits (f x)) (name-lent (now (a .page)) (a .i) h) ∙ start .pre .1 .0 in
     (omega arith, keeps-lent (now (a .page)) (a .i) h (start .pre .0 .0), start .pre .0 .1, m .0, ap fits (m .1) ∙ fit)
 
@@ -132,7 +134,8 @@ returns-2 c =
     let page = now (a .page) in
     let log = now (a .log) in
     let b = after-back-of .back-of .result in
-    let m = of-slot page log (a .author) (a .i) (start .pre .0 .2) b (after-span-of .span-of .ensures .1) (after-back-of .back-of .ensures) in
+    let found = means log (a .author) (start .pre .0 .1) b (after-back-of .back-of .ensures) refl in
+    let m = of-slot page log (a .author) (a .i) (start .pre .0 .2) b (after-span-of .span-of .ensures .1) found in
     after-write-back .write-back .ensures ∙ written page log (a .author) (a .i) (start .pre .0 .2) b (now (a .out)) (m .1)
 
 pub write-one-back-spec : {M : Type 1} → statement M

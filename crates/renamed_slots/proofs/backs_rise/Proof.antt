@@ -80,14 +80,14 @@ tuple-back-requires : tie.Need-tuple-back-requires Inv-loop μ-loop
 tuple-back-requires c κs =
     let at-loop : tie.At-loop Inv-loop μ-loop = search needs in
     let start : tie.Start Inv-loop μ-loop = search needs in
-    (start .pre .0 .0, start .pre .0 .2, start .pre .1 .0 .0, omega (arith, c .if2 .left, at-loop .loop .inv .0))
+    (start .pre .0 .0, start .pre .0 .2, start .pre .1 .0, omega (arith, c .if2 .left, at-loop .loop .inv .0))
 
 tuple-back-requires-2 : tie.Need-tuple-back-requires-2 Inv-loop μ-loop
 tuple-back-requires-2 c κs =
     let else1 : tie.Else1 Inv-loop μ-loop = search needs in
     let at-loop : tie.At-loop Inv-loop μ-loop = search needs in
     let start : tie.Start Inv-loop μ-loop = search needs in
-    (start .pre .0 .1, start .pre .0 .2, start .pre .1 .1 .0, omega (arith, else1 .if1 .left, at-loop .loop .inv .1))
+    (start .pre .0 .1, start .pre .0 .2, start .pre .1 .1, omega (arith, else1 .if1 .left, at-loop .loop .inv .1))
 
 compare-tuples-requires : tie.Need-compare-tuples-requires Inv-loop μ-loop
 compare-tuples-requires c κs = search needs

@@ -1,16 +1,13 @@
 -- `renamed_slots::count_back` meets its contract. Assumes nothing.
-use mathlib.Core.Path.{_≡_, _∙_, sym, ap, subst}
-use mathlib.Core.List.{[], _∷_, _++_}
-use Prim.Native.Nat.{_+_}
-use native.Mathlib.Omega.{arith}
+use mathlib.Core.Path.{_∙_, sym, ap, subst}
+use mathlib.Core.Bool.{true, false}
 use denote.Ref.{now}
-use lib.ListN.{length, drop, getD, length-append}
-use Rattle.names.specs.Names.{oneBelow, m, M}
+use lib.ListN.{length}
 use Rattle.slots.specs.Slots.{nameOf}
 use Rattle.pages.specs.Pages.{namesOf}
 use Rattle.one_name.specs.declared.Back.{Back}
 use Rattle.one_name.specs.Backs.{shaped, Stands}
-use Rattle.names.proofs.Laws.{below-length}
+use Rattle.renamed_slots.proofs.JoinedRows.{joint-length}
 use Rattle.renamed_slots.proofs.ReadTuples.{count-of}
 use borrow.Author.Needs.{needs}
 use Rattle.renamed_slots.proofs.count_back.Statement.{statement}
@@ -78,28 +75,20 @@ returns-3 c =
     let after-count-joined : tie.After-count-joined = search needs in
     let after-back3 : tie.After-back3 = search needs in
     let start : tie.Start = search needs in
-    let x = start .args in
-    let c = nameOf (now (x .slot)) in
-    let l = namesOf (now (x .log)) in
+    let c = nameOf (now (start .args .slot)) in
+    let l = namesOf (now (start .args .log)) in
     let found = after-back3 .back3 .given in
-    let r = getD l (found .0 .0) [] in
-    let v = drop (found .0 .1 .0) c in
-    let size : length r + 1 + length v ≡ length (r ++ (m ∷ v)) = omega (arith, length-append r (m ∷ v)) in
-    after-count-joined .count-joined .ensures ∙ size ∙ ap (λ (q : Back). length (shaped c l q)) (sym (found .1))
+    after-count-joined .count-joined .ensures ∙ joint-length c l (found .0 .0) (found .0 .1 .0) false ∙ ap (λ (q : Back). length (shaped c l q)) (sym (found .1))
 
 returns-4 : tie.Need-returns-4
 returns-4 c =
     let after-count-joined2 : tie.After-count-joined2 = search needs in
     let after-back4 : tie.After-back4 = search needs in
     let start : tie.Start = search needs in
-    let x = start .args in
-    let c = nameOf (now (x .slot)) in
-    let l = namesOf (now (x .log)) in
+    let c = nameOf (now (start .args .slot)) in
+    let l = namesOf (now (start .args .log)) in
     let found = after-back4 .back4 .given in
-    let r = getD l (found .0 .0) [] in
-    let v = drop (found .0 .1 .0) c in
-    let size : length r + 1 + length v ≡ length (oneBelow r ++ (M ∷ v)) = omega (arith, length-append (oneBelow r) (M ∷ v), below-length r) in
-    after-count-joined2 .count-joined2 .ensures ∙ size ∙ ap (λ (q : Back). length (shaped c l q)) (sym (found .1))
+    after-count-joined2 .count-joined2 .ensures ∙ joint-length c l (found .0 .0) (found .0 .1 .0) true ∙ ap (λ (q : Back). length (shaped c l q)) (sym (found .1))
 
 pub count-back-spec : {M : Type 1} → statement M
 count-back-spec =

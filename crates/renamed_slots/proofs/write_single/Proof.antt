@@ -1,7 +1,7 @@
 -- `renamed_slots::write_single` meets its contract. Assumes nothing.
 use mathlib.Core.Path.{_∙_, sym, ap, subst}
 use denote.Ref.{now}
-use Rattle.numbers.specs.Bytes.{Bytes, put}
+use Rattle.numbers.specs.Bytes.{put}
 use Rattle.slots.specs.Slots.{lineOf, nameOf, slotBytes}
 use Rattle.slots.proofs.RoundTrip.{kept}
 use Rattle.pages.specs.Pages.{namesOf}
