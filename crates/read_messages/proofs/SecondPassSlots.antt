@@ -12,11 +12,8 @@ use Rattle.names.specs.Names.{limit, isName, fits}
 use Rattle.numbers.proofs.Bools.{and-0, and-1}
 use Rattle.numbers.specs.Bytes.{Bytes, put}
 use Rattle.numbers.specs.Lists.{every}
-use Rattle.slots.specs.declared.Span.{Span}
-use Rattle.slots.specs.Tuples.{rowAt, Within, Lies}
 use Rattle.slots.specs.Slots.{slotSize, slotBytes}
 use Rattle.numbers.proofs.Put.{put-put, put-length, put-none}
-use Rattle.slots.proofs.TuplesInBytes.{length-tuplesAt}
 use Rattle.slots.proofs.RoundTrip.{slot-length}
 use Rattle.pages.specs.Pages.{pieces}
 use Rattle.numbers.proofs.Lists.{flat, flat-none}
@@ -76,14 +73,11 @@ module _ {s : Bytes} {c n : ℕ} {o₀ o : Bytes} {p i : ℕ} (v : Placing s c n
     all-fit : every nameFits (here ∷ after) ≡ true
     all-fit = sym (ap (every nameFits) next) ∙ v .fit
 
-    few-tuples : length here ≤ limit
-    few-tuples = leb-true (length here) limit (and-1 (isName here) (fits here) (and-0 (nameFits here) (every nameFits after) all-fit))
-
-    pub placing-lies : (x : Span) → Within s x → rowAt s x ≡ tuplesIn (drop p s) → Lies s x
-    placing-lies x w e = let l = length-tuplesAt s (x .at) (x .count) in let f = ap length e in let k = few-tuples in (w, omega arith)
+    pub placing-few : length (tuplesIn (drop p s)) ≤ limit
+    placing-few = leb-true (length here) limit (and-1 (isName here) (fits here) (and-0 (nameFits here) (every nameFits after) all-fit))
 
     long : length (slotBytes (bare here)) ≡ slotSize
-    long = slot-length (bare here) few-tuples
+    long = slot-length (bare here) placing-few
 
     pub placing-on : (o' : Bytes) → slotSize * n ≤ length o₀ → o' ≡ put o (slotSize * i) (slotBytes (bare (tuplesIn (drop p s))))
         → Placing s c n o₀ o' (p + (fieldHead + sizeIn (drop p s))) (i + 1)

@@ -7,10 +7,11 @@ ghost use Prim.Native.Nat.{_+_, _*_, _≤_};
 ghost use lib.Dec.{eqb};
 ghost use lib.ListN.{length, drop};
 ghost use Rattle.names.specs.Ordering.{compareRows, isLess};
+ghost use Rattle.names.specs.Names.{limit};
 ghost use Rattle.numbers.specs.Bytes.{at32, put};
 ghost use Rattle.numbers.specs.Lists.{every};
 ghost use Rattle.slots.specs.Tuples.{rowAt, Within};
-ghost use Rattle.slots.specs.Slots.{slotSize};
+ghost use Rattle.slots.specs.Slots.{slotSize, slotBytes};
 ghost use Rattle.slots.specs.Looks.{leads};
 ghost use Rattle.answers.specs.Answers.{ask, leaves};
 ghost use Rattle.pages.specs.Pages.{pieces};
@@ -354,8 +355,16 @@ fn told_of(message: &[u8]) -> Told
 
 // ── the second pass ──
 
-// "the names, in slots with line number 0": the n names whose fields stand from the cursor on, from the start of out.
-fn write_slots(message: &[u8], cursor: Cursor, n: usize, out: &mut [u8])
+// "the names, in slots with line number 0": the name whose field stands at the cursor, in slot i of out.
+fn write_slot(message: &[u8], cursor: Cursor, i: usize, out: &mut [u8])
+    requires { ⌜ (nameStands (drop (cursor .at) (now message)) ≡ true) × (length (tuplesIn (drop (cursor .at) (now message))) ≤ limit) × (slotSize * i + slotSize ≤ length (now out)) ⌝ }
+    ensures { λ _. ⌜ now (out .exit) ≡ put (now (out .entry)) (slotSize * i) (slotBytes (bare (tuplesIn (drop (cursor .at) (now (message .entry)))))) ⌝ }
+{
+    slots::copy_slot(out, SLOT * i, 0, message, span_in(message, cursor));
+}
+
+// The n names whose fields stand from the cursor on, from the start of out.
+fn write_each(message: &[u8], cursor: Cursor, n: usize, out: &mut [u8])
     requires { ⌜ (length (namesWithin n (drop (cursor .at) (now message))) ≡ n) × (every nameFits (namesWithin n (drop (cursor .at) (now message))) ≡ true) × (slotSize * n ≤ length (now out)) ⌝ }
     ensures { λ _. ⌜ now (out .exit) ≡ put (now (out .entry)) 0 (flatten (pieces (map bare (namesWithin n (drop (cursor .at) (now (message .entry))))))) ⌝ }
 {
@@ -363,10 +372,22 @@ fn write_slots(message: &[u8], cursor: Cursor, n: usize, out: &mut [u8])
     let mut at = cursor.at;
     while i < n {
         let here = Cursor { at };
-        slots::copy_slot(out, SLOT * i, 0, message, span_in(message, here));
+        write_slot(message, here, i, out);
         let next = fields::after_field(message, here);
         at = next.at;
         i += 1;
+    }
+}
+
+// The same, with no loop for the one name of an insert or a remove, which most messages are.
+fn write_slots(message: &[u8], cursor: Cursor, n: usize, out: &mut [u8])
+    requires { ⌜ (length (namesWithin n (drop (cursor .at) (now message))) ≡ n) × (every nameFits (namesWithin n (drop (cursor .at) (now message))) ≡ true) × (slotSize * n ≤ length (now out)) ⌝ }
+    ensures { λ _. ⌜ now (out .exit) ≡ put (now (out .entry)) 0 (flatten (pieces (map bare (namesWithin n (drop (cursor .at) (now (message .entry))))))) ⌝ }
+{
+    if n == 1 {
+        write_slot(message, cursor, 0, out);
+    } else {
+        write_each(message, cursor, n, out);
     }
 }
 
