@@ -44,8 +44,8 @@ const FEW: usize = 4;
 
 const MANY: usize = 8;
 
-// The words of four bytes of a run of many.
-const WORDS: usize = TUPLE * MANY / 4;
+// The words of four bytes of as many tuples as a name can have.
+const WORDS: usize = TUPLE * LIMIT / 4;
 
 // Where the line number stands in a slot, and node, sequence and offset in a tuple, after its position.
 const LINE: usize = 4;
@@ -648,15 +648,6 @@ pub fn copy_row(out: &mut [u8], p: usize, s: &[u8], at: usize, n: usize)
     );
 }
 
-// The n tuples that stand from `at` on in s, fewer than a run of many, and zeros after them to the end of that run.
-fn copy_few(out: &mut [u8], p: usize, s: &[u8], at: usize, n: usize)
-    requires { ⌜ (n < 8) × (p + tupleSize * 8 ≤ length (now out)) × (at + tupleSize * n ≤ length (now s)) ⌝ }
-    ensures { λ _. ⌜ now (out .exit) ≡ put (now (out .entry)) p (rowBytes (tuplesAt (now (s .entry)) at n) ++ replicate (tupleSize * (8 - n)) 0) ⌝ }
-{
-    numbers::write_zeros(out, p, WORDS);
-    copy_row(out, p, s, at, n);
-}
-
 // What stands before the d tuples of a slot: their number, "three zero bytes, line number".
 pub fn write_head(out: &mut [u8], p: usize, d: usize, line: u32)
     requires { ⌜ (p + headSize ≤ length (now out)) × (d ≤ limit) ⌝ }
@@ -685,16 +676,12 @@ pub fn write_slot(out: &mut [u8], p: usize, line: u32, a: Name)
     write_rest(out, p, d);
 }
 
-// A slot from p on, of a name that stands in other bytes. What is zero is written first, in runs of one length, and the tuples over it.
+// A slot from p on, of a name that stands in other bytes. All its room is written zero first, in one length, and the tuples over it.
 pub fn copy_slot(out: &mut [u8], p: usize, line: u32, s: &[u8], name: Span)
     requires { ⌜ (p + slotSize ≤ length (now out)) × Lies (now s) name ⌝ }
     ensures { λ _. ⌜ now (out .exit) ≡ put (now (out .entry)) p (slotBytes (record { line = line; name = rowAt (now (s .entry)) name })) ⌝ }
 {
     write_head(out, p, name.count, line);
-    numbers::write_zeros(out, p + HEAD + TUPLE * MANY, WORDS);
-    if name.count < MANY {
-        copy_few(out, p + HEAD, s, name.at, name.count);
-    } else {
-        copy_row(out, p + HEAD, s, name.at, name.count);
-    }
+    numbers::write_zeros(out, p + HEAD, WORDS);
+    copy_row(out, p + HEAD, s, name.at, name.count);
 }
