@@ -1,4 +1,5 @@
 pub mod Laws
+pub mod Digits
 pub mod CompareTuples
 pub mod Validity
 pub mod TestedOrder
