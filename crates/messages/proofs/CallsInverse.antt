@@ -98,7 +98,8 @@ module _ (s : Bytes) (room n : ℕ) (h : readOutcome s room .answer ≡ Accepted
   abbrev slots : Bytes
   slots = flatten (pieces (map bare (namesIn s)))
 
-  read-is : readOutcome s room ≡ record { answer = Accepted (length (namesIn s)); bytes = flatten (pieces (map bare (namesIn s))) }
+  -- what reading gives
+  pub read-is : readOutcome s room ≡ record { answer = Accepted (length (namesIn s)); bytes = flatten (pieces (map bare (namesIn s))) }
   read-is = read-done s room kept (when-read s room n .0 h .1)
 
   good-slots : every isSlot (map bare (namesIn s)) ≡ true
@@ -113,6 +114,10 @@ module _ (s : Bytes) (room n : ℕ) (h : readOutcome s room .answer ≡ Accepted
 
   again : slotsOf slots ≡ map bare (namesIn s)
   again = slots-back (map bare (namesIn s)) good-slots
+
+  -- its slots
+  pub slots-read : slotsOf (readOutcome s room .bytes) ≡ map bare (namesIn s)
+  slots-read = ap (λ (o : Outcome). slotsOf (o .bytes)) read-is ∙ again
 
   parts-again : partsGiven (numbersIn s) slots ≡ partsIn s
   parts-again = λ i. record { numbers = numbersIn s; names = (ap (map nameIn) again ∙ names-bare (namesIn s)) i }

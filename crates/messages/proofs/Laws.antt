@@ -10,7 +10,7 @@ use Rattle.messages.proofs.WriteBack.{bytes-back, one-writing}
 use Rattle.messages.proofs.WrittenOctets.{written-octets}
 use Rattle.messages.proofs.Longest.{longest-is, no-longer-read, full, full-message, full-length}
 use Rattle.messages.proofs.CallAnswers.{when-malformed, when-short, when-read, when-unwritable, when-too-long, when-written}
-use Rattle.messages.proofs.CallsInverse.{may-again, write-read, read-written, numbers-written, may-exactly}
+use Rattle.messages.proofs.CallsInverse.{slots-read, may-again, write-read, read-written, numbers-written, may-exactly}
 use Rattle.messages.proofs.SlotsAreALog.{read-log}
 
 inverse : InverseLaws
@@ -44,6 +44,7 @@ laws = record {
     accepted = when-read s room;
     zeros-refused = λ r e. ap (λ (a : Answer). givenBy a (numbersIn s)) e;
     numbers-accepted = λ n e. ap (λ (a : Answer). givenBy a (numbersIn s)) e;
+    slots = slots-read s room;
     log = read-log s room;
     may-again = may-again s room;
     write-read = write-read s room;

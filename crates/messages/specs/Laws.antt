@@ -2,6 +2,7 @@
 -- each element of s is a byte, `room` is how many bytes the output has.
 use Prim.Native.Nat.{ℕ, _*_, _<_, _≤_}
 use mathlib.Core.Path.{_≡_}
+use mathlib.Core.List.{map}
 use mathlib.Core.Bool.{true, false}
 use mathlib.Core.Logic.{_↔_}
 use lib.ListN.{length}
@@ -13,7 +14,7 @@ use Rattle.answers.specs.declared.Refusal.the-variants.{Malformed, Short}
 use Rattle.pages.specs.Pages.{slotsOf, isLog}
 use Rattle.messages.specs.declared.Numbers.{Numbers}
 use Rattle.messages.specs.Messages.{Parts, isMessage, messageBytes, namesIn, numbersIn, partsIn, keepsMessage, longest}
-use Rattle.messages.specs.Calls.{readOutcome, zeros, numbersRead, partsGiven, mayWrite, writeOutcome}
+use Rattle.messages.specs.Calls.{bare, readOutcome, zeros, numbersRead, partsGiven, mayWrite, writeOutcome}
 
 -- ── messages ──
 
@@ -59,7 +60,9 @@ pub record ReadLaws (s : Bytes) (room : ℕ) : Type 0 where
   pub zeros-refused : (r : Refusal) → readOutcome s room .answer ≡ Refused r → numbersRead s room ≡ zeros
   -- and an accepted one those of the message
   pub numbers-accepted : (n : ℕ) → readOutcome s room .answer ≡ Accepted n → numbersRead s room ≡ numbersIn s
-  -- the slots that reading gives are a log
+  -- "the names, in slots with line number 0"
+  pub slots : (n : ℕ) → readOutcome s room .answer ≡ Accepted n → slotsOf (readOutcome s room .bytes) ≡ map bare (namesIn s)
+  -- they are a log
   pub log : (n : ℕ) → readOutcome s room .answer ≡ Accepted n → isLog (readOutcome s room .bytes) ≡ true
   -- and with the numbers that it gives they may be written
   pub may-again : (n : ℕ) → readOutcome s room .answer ≡ Accepted n → mayWrite (numbersRead s room) (readOutcome s room .bytes) ≡ true
