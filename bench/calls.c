@@ -86,8 +86,8 @@ static uint64_t call_next_step(const Input *in, Output *out)
 
 static uint64_t call_add_epoch(const Input *in, Output *out)
 {
-    return kadalumbir_add_epoch(in->first.bytes, in->first.length, in->index, AUTHOR_NODE, AUTHOR_SEQUENCE, out->bytes,
-                                sizeof out->bytes);
+    return kadalumbir_add_epoch(in->first.bytes, in->first.length, in->index, AUTHOR_NODE, AUTHOR_SEQUENCE,
+                                AUTHOR_NAMES, out->bytes, sizeof out->bytes);
 }
 
 const Call CALLS[OPERATIONS] = {

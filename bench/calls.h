@@ -26,8 +26,9 @@ typedef enum {
     OPERATIONS
 } Operation;
 
-/* Who renames, makes names and adds epochs, everywhere. No name and no epoch of an input is this author's. */
-enum { AUTHOR_NODE = 9, AUTHOR_SEQUENCE = 1 };
+/* Who renames, makes names and adds epochs, everywhere, and how many names the log of such an epoch has. No name and no
+ * epoch of an input is this author's. */
+enum { AUTHOR_NODE = 9, AUTHOR_SEQUENCE = 1, AUTHOR_NAMES = 40 };
 
 typedef struct {
     size_t length;

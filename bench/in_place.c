@@ -807,7 +807,9 @@ uint64_t kadalumbir_to_old(const uint8_t *page, size_t page_len, uint8_t *out, s
     return accepted(count);
 }
 
-/* ---- epochs: an entry as one number, "node u16, sequence u32, parent index u16" */
+/* ---- epochs: "node u16, sequence u32, parent index u16" of an entry as one number, and "the count" after it */
+
+enum { COUNT_AT = 8 };
 
 static inline uint64_t entry_at(const uint8_t *table, size_t i)
 {
@@ -824,6 +826,23 @@ static inline size_t parent_of(const uint8_t *table, size_t i)
     return load16(table + i * ENTRY + 6);
 }
 
+static inline uint16_t count_of(const uint8_t *table, size_t i)
+{
+    return load16(table + i * ENTRY + COUNT_AT);
+}
+
+/* "by that number first, then node, then sequence": the three as one number, which is 0 for entry 0 alone. */
+static inline uint64_t entry_key(const uint8_t *table, size_t i)
+{
+    return (uint64_t)count_of(table, i) << 48 | entry_pair(table, i);
+}
+
+/* "the number of names in its rename's log (u16, 1..256)" */
+static inline bool is_count(uint16_t count)
+{
+    return count - 1u < SLOTS;
+}
+
 /* Whether some entry has this pair: entries that differ in the parent alone have the same. */
 static APART bool lists_pair(const uint8_t *table, size_t count, uint64_t pair)
 {
@@ -834,21 +853,37 @@ static APART bool lists_pair(const uint8_t *table, size_t count, uint64_t pair)
     return listed;
 }
 
-/* "Entry 0 is all zero. Every other entry has node at least 1, a parent index below its own index, and a (node,
- * sequence) that no other entry has." */
+/* "Every other entry has node at least 1, a parent index below its own index [..]"; "a count outside 1..256 in an entry
+ * other than entry 0 is 13" */
+static inline bool is_entry(const uint8_t *table, size_t i)
+{
+    return entry_at(table, i) >> 48 != 0 && parent_of(table, i) < i && is_count(count_of(table, i));
+}
+
+enum { NODE_GROUPS = 8 };
+
+/* "entry 0 stays all zero"; "and a (node, sequence) that no other entry has": a sequence above the greatest so far of its
+ * node's group makes a new pair, and another is looked for. */
 static bool is_table(const uint8_t *table, size_t table_len)
 {
-    if (table_len % ENTRY != 0 || table_len < ENTRY || table_len > KADALUMBIR_TABLE_BYTES || entry_at(table, 0) != 0)
+    if (table_len % ENTRY != 0 || table_len < ENTRY || table_len > KADALUMBIR_TABLE_BYTES || entry_at(table, 0) != 0 ||
+        count_of(table, 0) != 0)
         return false;
-    for (size_t i = 1; i < table_len / ENTRY; i++)
-        if (entry_at(table, i) >> 48 == 0 || parent_of(table, i) >= i || lists_pair(table, i, entry_pair(table, i)))
+    uint32_t greatest[NODE_GROUPS] = {0};
+    for (size_t i = 1; i < table_len / ENTRY; i++) {
+        uint64_t pair = entry_pair(table, i);
+        uint32_t sequence = (uint32_t)pair, *before = &greatest[(pair >> 32) % NODE_GROUPS];
+        if (!is_entry(table, i) || (sequence <= *before && lists_pair(table, i, pair)))
             return false;
+        if (sequence > *before)
+            *before = sequence;
+    }
     return true;
 }
 
-/* "Paths compare entry by entry, by node then sequence; a proper prefix is smaller": whether a's path is below b's.
- * From the greater index to its parent, again and again, the two come to the last entry that the paths share; the
- * first that they do not share is the one come from. Where a path ends there, entry 0, the smallest, stands for it. */
+/* "paths compare entry by entry"; "a proper prefix is smaller": whether a's path is below b's. From the greater index
+ * to its parent, again and again, the two come to the last entry that the paths share; the first that they do not share
+ * is the one come from. Where a path ends there, entry 0, the smallest, stands for it. */
 static bool path_below(const uint8_t *table, size_t a, size_t b)
 {
     size_t a_behind = 0, b_behind = 0;
@@ -860,7 +895,7 @@ static bool path_below(const uint8_t *table, size_t a, size_t b)
             b_behind = b;
             b = parent_of(table, b);
         }
-    return entry_pair(table, a_behind) < entry_pair(table, b_behind);
+    return entry_key(table, a_behind) < entry_key(table, b_behind);
 }
 
 /* "The target is the greatest." */
@@ -901,24 +936,27 @@ uint64_t kadalumbir_next_step(const uint8_t *table, size_t table_len, size_t cur
 
 /* "Adding an epoch appends one entry in a second table." */
 uint64_t kadalumbir_add_epoch(const uint8_t *table, size_t table_len, size_t parent, uint16_t node, uint32_t sequence,
-                              uint8_t *out, size_t out_len)
+                              uint16_t count, uint8_t *out, size_t out_len)
 {
-    size_t count = table_len / ENTRY;
+    size_t entries = table_len / ENTRY;
     if (!is_table(table, table_len))
         return refused(KADALUMBIR_BAD_TABLE);
-    if (parent >= count)
+    if (parent >= entries)
         return refused(KADALUMBIR_NO_EPOCH);
     if (node == 0)
         return refused(KADALUMBIR_NO_AUTHOR);
-    if (lists_pair(table, count, pair_of(node, sequence)))
+    if (!is_count(count))
+        return refused(KADALUMBIR_BAD_TABLE);
+    if (lists_pair(table, entries, pair_of(node, sequence)))
         return refused(KADALUMBIR_LISTED);
-    if (count == KADALUMBIR_ENTRIES)
+    if (entries == KADALUMBIR_ENTRIES)
         return refused(KADALUMBIR_TABLE_FULL);
     if (out_len < table_len + ENTRY)
         return refused(KADALUMBIR_SHORT);
     memcpy(out, table, table_len);
     store64(out + table_len, pair_of(node, sequence) << 16 | parent);
-    return accepted(count + 1);
+    store16(out + table_len + COUNT_AT, count);
+    return accepted(entries + 1);
 }
 
 /* ---- messages: "Fields of one-byte tag, two-byte length, content" */

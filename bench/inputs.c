@@ -3,11 +3,12 @@
 #include <string.h>
 
 #include "../include/kadalumbir.h"
-#include "../tests/reference/epochs.h"
+#include "../tests/reference/numbers.h"
 
 enum {
     OTHER_NODE = 2,  /* of every name */
-    FIRST_NODE = 100 /* of the epochs */
+    FIRST_NODE = 100, /* of the epochs */
+    LOGGERS = 3
 };
 
 /* A renamed book to which lines were added is taken back. */
@@ -125,14 +126,29 @@ static void become_result(Operation operation, size_t piece, Input *input)
     memcpy(input->first.bytes, output.bytes, input->first.length);
 }
 
+/* "node u16, sequence u32, parent index u16" and the count. */
+static void add_entry(Part *table, uint16_t node, uint32_t sequence, uint16_t parent, uint16_t count)
+{
+    uint8_t *entry = table->bytes + table->length;
+    to_bytes(entry, 2, node);
+    to_bytes(entry + 2, 4, sequence);
+    to_bytes(entry + 6, 2, parent);
+    to_bytes(entry + 8, 2, count);
+    table->length += KADALUMBIR_ENTRY_BYTES;
+}
+
+/* The renames of three loggers in turn, each with sequences of its own that rise, and counts that rise and fall, four times
+ * the same: so that in a star, where each epoch is held against the greatest before it, the count decides of some, the node
+ * of others and the sequence of others. */
 static void make_table(size_t entries, Shape shape, Part *table)
 {
-    table->length = entries * ENTRY_BYTES;
-    memset(table->bytes, 0, ENTRY_BYTES);
-    for (size_t i = 1; i < entries; i++) {
-        Entry entry = {(uint16_t)(FIRST_NODE + i), 1, (uint16_t)(shape == CHAIN ? i - 1 : 0)};
-        write_entry(table->bytes + i * ENTRY_BYTES, entry);
-    }
+    static const uint16_t counts[] = {12, 40, 3, 40, 256, 1, 256, 90};
+    static const uint32_t sequences[LOGGERS] = {90, 3, 40};
+    table->length = 0;
+    add_entry(table, 0, 0, 0, 0);
+    for (size_t i = 1; i < entries; i++)
+        add_entry(table, (uint16_t)(FIRST_NODE + i % LOGGERS), sequences[i % LOGGERS] + (uint32_t)(7 * i),
+                  (uint16_t)(shape == CHAIN ? i - 1 : 0), counts[i / 4 % (sizeof counts / sizeof counts[0])]);
 }
 
 void make_input(Operation operation, Shape shape, size_t size, Input *input)

@@ -1,8 +1,9 @@
 /*
  * Three loggers edit one line book at the same time, each its own copy of it. What they tell each other comes late, twice
- * and in different orders; when all of it has come, the three books are alike. Then one book alone: which gain applies to
- * each reading, before a rename, after it and after its taking back; and the three's book, handed to a unit that still has
- * old pages. All of it is done by the calls of kadalumbir.h.
+ * and in different orders; when all of it has come, the three books are alike. Then a spare logger comes back with a
+ * rename of a short book, which moves none of the three. Then one book alone: which gain applies to each reading, before
+ * a rename, after it and after its taking back; and the three's book, handed to a unit that still has old pages. All of
+ * it is done by the calls of kadalumbir.h.
  */
 #include <kadalumbir.h>
 #include <stdio.h>
@@ -13,8 +14,12 @@
 enum { LOGGERS = 3, ROUNDS = 10 };
 static const char plan[ROUNDS][LOGGERS + 1] = {"+++", "+++", "+++", "R+R", "+R+", "-++", "++-", "R++", "+-R", "-+-"};
 
-enum { MESSAGES = LOGGERS * ROUNDS, COPIES = MESSAGES * (LOGGERS - 1) * 2 };
+/* The spare logger had the book's first lines, one of each of the three, and writes one message, a rename of them. */
+enum { SPARE_NODE = 900, SPARE_LINES = LOGGERS, SPARE_MESSAGES = 1 };
+
+enum { MESSAGES = LOGGERS * ROUNDS + SPARE_MESSAGES, COPIES = MESSAGES * LOGGERS * 2 };
 enum { LINE_BYTE = 4, NAME_BYTE = 8 }; /* where the line number and the name begin in a slot */
+enum { PARENT_BYTE = 6, COUNT_BYTE = 8 }; /* where the parent's index and the count begin in an entry */
 enum { NAME_TEXT = KADALUMBIR_TUPLES * 36 }; /* a tuple is at most 5, 5, 10 and 11 characters, three points and a slash */
 
 /* (node, sequence): a message by its author, and an epoch by the rename that made it. The first epoch is (0, 0). */
@@ -61,7 +66,7 @@ typedef struct {
     Logger *to;
 } Copy;
 
-static Logger crew[LOGGERS];
+static Logger crew[LOGGERS], spare;
 static Message written[MESSAGES];
 static size_t written_count;
 static Copy under_way[COPIES];
@@ -75,7 +80,7 @@ static unsigned copies, repeats, waits, translated, taken_back;
 /* The same numbers in each run, so that each run prints the same. */
 static uint32_t chance(uint32_t limit)
 {
-    static uint32_t state = 524;
+    static uint32_t state = 2240;
     state = state * 1664525u + 1013904223u;
     return (state >> 16) % limit;
 }
@@ -224,7 +229,13 @@ static Pair epoch_at(const Logger *logger, size_t entry)
 
 static size_t parent_of(const Logger *logger, size_t entry)
 {
-    return read_u16(logger->table + entry * KADALUMBIR_ENTRY_BYTES + 6);
+    return read_u16(logger->table + entry * KADALUMBIR_ENTRY_BYTES + PARENT_BYTE);
+}
+
+/* How many names the log of the entry's rename has. */
+static uint16_t count_at(const Logger *logger, size_t entry)
+{
+    return read_u16(logger->table + entry * KADALUMBIR_ENTRY_BYTES + COUNT_BYTE);
 }
 
 /* Loggers hear of epochs in different orders, so an epoch's entry is each logger's own affair. */
@@ -238,14 +249,22 @@ static size_t entry_of(const Logger *logger, Pair epoch)
     return entry;
 }
 
-static void add_epoch(Logger *logger, size_t parent, Pair author, const Page *log)
+/* Gives the index of the entry. */
+static size_t add_entry(Logger *logger, size_t parent, Pair author, uint16_t count)
 {
     uint8_t table[KADALUMBIR_TABLE_BYTES];
-    uint32_t count = accepted(kadalumbir_add_epoch(logger->table, logger->table_len, parent, author.node,
-                                                   author.sequence, table, sizeof table), "add epoch");
-    logger->table_len = count * KADALUMBIR_ENTRY_BYTES;
+    uint32_t entries = accepted(kadalumbir_add_epoch(logger->table, logger->table_len, parent, author.node,
+                                                     author.sequence, count, table, sizeof table), "add epoch");
+    logger->table_len = entries * KADALUMBIR_ENTRY_BYTES;
     memcpy(logger->table, table, logger->table_len);
-    logger->logs[count - 1] = *log;
+    return entries - 1;
+}
+
+/* The log is as it was read from the rename's message, so that all loggers give the epoch the same count. */
+static void add_epoch(Logger *logger, size_t parent, Pair author, const Page *log)
+{
+    size_t entry = add_entry(logger, parent, author, (uint16_t)slots_of(log));
+    logger->logs[entry] = *log;
 }
 
 /* Brings names over one edge of the epoch tree. A parent has the smaller index. */
@@ -276,13 +295,21 @@ static void translate(const Logger *logger, Page *page, size_t from, size_t to)
     }
 }
 
+static uint8_t next_step(const Logger *logger, size_t current, size_t *next)
+{
+    uint8_t step;
+    uint32_t index;
+    accepted(kadalumbir_next_step(logger->table, logger->table_len, current, &step, &index), "next step");
+    *next = index;
+    return step;
+}
+
 /* 001, section 5.2: all loggers choose the same epoch of those that they know. The book goes there edge by edge. */
 static void walk_to_target(Logger *logger)
 {
-    uint8_t step;
-    uint32_t next;
+    size_t next;
     for (;;) {
-        accepted(kadalumbir_next_step(logger->table, logger->table_len, logger->current, &step, &next), "next step");
+        uint8_t step = next_step(logger, logger->current, &next);
         if (step == KADALUMBIR_STAY)
             return;
         taken_back += step == KADALUMBIR_UP;
@@ -568,18 +595,22 @@ static void print_epochs(const Logger *logger)
     for (size_t entry = 1; entry < entries_of(logger); entry++) {
         write_epoch(epoch_at(logger, entry), epoch);
         write_epoch(epoch_at(logger, parent_of(logger, entry)), parent);
-        printf("  %s is a rename of %s\n", epoch, parent);
+        printf("  %s is a rename of %s, of %u lines\n", epoch, parent, (unsigned)count_at(logger, entry));
     }
 }
 
 /* ---- the crew */
 
+static void start(Logger *logger, uint16_t node)
+{
+    logger->node = node;
+    logger->table_len = KADALUMBIR_ENTRY_BYTES; /* the first epoch, all zero */
+}
+
 static void start_crew(void)
 {
-    for (int i = 0; i < LOGGERS; i++) {
-        crew[i].node = (uint16_t)(i + 1);
-        crew[i].table_len = KADALUMBIR_ENTRY_BYTES; /* the first epoch, all zero */
-    }
+    for (int i = 0; i < LOGGERS; i++)
+        start(&crew[i], (uint16_t)(i + 1));
 }
 
 static void edit_apart(void)
@@ -601,7 +632,7 @@ static void print_words(void)
     puts("Three loggers edit one line book at the same time, each its own copy. A line is a number and a name; the order of the\n"
          "names is the order of the lines. Line 203 is the third that logger 2 wrote. A name is one or more tuples,\n"
          "position.node.sequence.offset, joined by /. A rename gives all lines short names and begins an epoch; of epochs\n"
-         "begun at the same time one stays, and the others' renames are taken back. A tuple 0.0.0.0 or\n"
+         "begun at the same time the one of the most lines stays, and the others' renames are taken back. A tuple 0.0.0.0 or\n"
          "65535.65535.4294967295.2147483647 is a marker that keeps a line in its place when that happens.\n");
 }
 
@@ -633,6 +664,124 @@ static void run_crew(void)
     hold_ends();
     print_counts();
     print_epochs(&crew[0]);
+}
+
+/* ---- the spare logger from the drawer */
+
+/* It was put away a month ago with the book's first lines, which it had renamed: that message never went out. */
+static void start_spare(void)
+{
+    start(&spare, SPARE_NODE);
+    for (int i = 0; i < SPARE_LINES; i++)
+        arrive(&spare, &written[i]);
+    rename_book(&spare);
+    if (count_at(&spare, spare.current) != SPARE_LINES)
+        failed("the spare logger's rename is not of the first lines");
+}
+
+static void write_rename(const Logger *logger, size_t entry, char *text)
+{
+    char epoch[32];
+    write_epoch(epoch_at(logger, entry), epoch);
+    sprintf(text, "%s, a rename of %u lines", epoch, (unsigned)count_at(logger, entry));
+}
+
+static void print_stands(const char *unit, const Logger *logger, size_t stood)
+{
+    char before[64], now[64];
+    write_rename(logger, stood, before);
+    write_rename(logger, logger->current, now);
+    printf("%-12s | %-32s | %s\n", unit, before, now);
+}
+
+/* The way from an epoch to the target. Gives the target. */
+static size_t print_way(const Logger *logger, size_t current)
+{
+    char epoch[32];
+    const char *before = "  ";
+    size_t next;
+    uint8_t step;
+    while ((step = next_step(logger, current, &next)) != KADALUMBIR_STAY) {
+        write_epoch(epoch_at(logger, next), epoch);
+        printf("%s%s to %s", before, step == KADALUMBIR_UP ? "up" : "down", epoch);
+        before = ", ";
+        current = next;
+    }
+    puts("");
+    return current;
+}
+
+/* The same epochs with equal counts, so that node and sequence alone decide. */
+static void level_counts(const Logger *logger, Logger *level)
+{
+    start(level, logger->node);
+    for (size_t entry = 1; entry < entries_of(logger); entry++)
+        add_entry(level, parent_of(logger, entry), epoch_at(logger, entry), 1);
+}
+
+/* Of the epoch that came late and the one on the logger's path that begins where it does. */
+static void print_choice(const Logger *logger, size_t late)
+{
+    static Logger level;
+    char spares[64], crews[64], both[32];
+    size_t stands = next_between(logger, parent_of(logger, late), logger->current);
+    write_rename(logger, late, spares);
+    write_rename(logger, stands, crews);
+    write_epoch(epoch_at(logger, parent_of(logger, late)), both);
+    printf("\nNo book of the crew is renamed back, and the spare logger has the crew's. Both %s, and\n"
+           "%s, begin at %s, and the one of more lines stands. By node and sequence alone\n"
+           "it would be the spare logger's. Were all renames of as many lines, each of the three would take some back and go\n",
+           spares, crews, both);
+    level_counts(logger, &level);
+    if (count_at(logger, stands) <= count_at(logger, late) || print_way(&level, logger->current) != late)
+        failed("it is not the count that decides against the spare logger's rename");
+}
+
+/* The crew hears of the spare logger's rename, each logger asks for its next step, and stays. */
+static void tell_crew(void)
+{
+    static Page book;
+    Pair epoch = epoch_at(&crew[0], crew[0].current);
+    unsigned before = taken_back;
+    book = crew[0].book;
+    hand_over(under_way_count);
+    if (taken_back != before)
+        failed("one of the crew takes a rename back for the spare logger's");
+    for (int i = 0; i < LOGGERS; i++)
+        if (!same_page(&crew[i].book, &book) || !same_pair(epoch_at(&crew[i], crew[i].current), epoch))
+            failed("the spare logger's rename moves one of the crew");
+}
+
+/* The spare logger hears all that the crew has written; what it had before is dropped as a repeat. */
+static void tell_spare(void)
+{
+    for (size_t i = 0; i < written_count; i++)
+        arrive(&spare, &written[i]);
+    if (spare.waiting_count != 0 || !same_end(&spare, &crew[0]))
+        failed("the spare logger does not end as the crew");
+}
+
+static void run_spare(void)
+{
+    size_t stood[LOGGERS], spare_stood;
+    char unit[32];
+    start_spare();
+    spare_stood = spare.current;
+    for (int i = 0; i < LOGGERS; i++)
+        stood[i] = crew[i].current;
+    tell_crew();
+    tell_spare();
+
+    printf("\nA spare logger comes back from the drawer after a month. Its node number is high, %d, and when the book had %d\n"
+           "lines it renamed it, which nobody has heard of. Now the crew hears of that, and the spare logger of all that the\n"
+           "crew has done since:\n\n", SPARE_NODE, SPARE_LINES);
+    printf("%-12s | %-32s | stands at\n", "unit", "stood at");
+    for (int i = 0; i < LOGGERS; i++) {
+        sprintf(unit, "logger %d", i + 1);
+        print_stands(unit, &crew[i], stood[i]);
+    }
+    print_stands("spare logger", &spare, spare_stood);
+    print_choice(&crew[0], entry_of(&crew[0], epoch_at(&spare, spare_stood)));
 }
 
 /* ---- which gain applies */
@@ -787,8 +936,8 @@ static void run_old_pages(void)
 {
     static Page log;
     Logger *logger = &crew[0];
-    puts("\nA unit from the drawer joins. It still has old pages, whose names are of at most eight tuples: a book goes to it and\n"
-         "comes back exactly when its names fit. A rename of all lines makes them fit.\n");
+    puts("\nAn old unit joins. It still has old pages, whose names are of at most eight tuples: a book goes to it and comes back\n"
+         "exactly when its names fit. A rename of all lines makes them fit.\n");
     printf("%-20s | lines | deepest | as an old page\n", "the book");
     hand_to_unit("as all three have it", &logger->book);
     write_row(logger, 1, KADALUMBIR_OLD_TUPLES);
@@ -802,6 +951,7 @@ static void run_old_pages(void)
 int main(void)
 {
     run_crew();
+    run_spare();
     run_gains();
     run_old_pages();
     return 0;

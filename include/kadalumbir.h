@@ -37,8 +37,10 @@
  *   old     an old page: the same with slots of 104 bytes, depth 1..8, as pages were while a name had at most 8 tuples. No
  *           bytes but the empty page are both: to the wrong call they are a broken layout.
  *   log     a page of 1 to 256 slots whose line numbers are all 0: the names that a rename makes short.
- *   table   1 to 32 entries of 8 bytes: node u16, sequence u32, parent's index u16. Entry 0 is all zero. Every other
- *           entry has node at least 1, a parent with a smaller index, and a (node, sequence) that no other entry has.
+ *   table   1 to 32 entries of 10 bytes: node u16, sequence u32, parent's index u16, count u16. Entry 0 is all zero. Every
+ *           other entry has node at least 1, a parent with a smaller index, a (node, sequence) that no other entry has, and
+ *           a count of 1..256: the number of names in the log of that rename. A table of entries of 8 bytes, with no count, as
+ *           tables were, is never one of these: it is a broken layout.
  *   message fields of tag u8, length u16, content, in this order: 1 kind (u8); 2 epoch and 3 author (each node u16,
  *           sequence u32; the first epoch is six zeros, an author's node is at least 1); 4 a name's tuples; for insert
  *           then 5 line number (u32). Insert and remove have one name, rename 1 to 256 rising ones.
@@ -61,7 +63,7 @@ extern "C" {
 #define KADALUMBIR_OLD_TUPLES 8 /* the most of a name in an old page */
 #define KADALUMBIR_OLD_SLOT_BYTES 104
 #define KADALUMBIR_OLD_PAGE_BYTES (KADALUMBIR_SLOTS * KADALUMBIR_OLD_SLOT_BYTES)
-#define KADALUMBIR_ENTRY_BYTES 8
+#define KADALUMBIR_ENTRY_BYTES 10
 #define KADALUMBIR_ENTRIES 32 /* the most of an epoch table */
 #define KADALUMBIR_TABLE_BYTES (KADALUMBIR_ENTRIES * KADALUMBIR_ENTRY_BYTES)
 #define KADALUMBIR_MESSAGE_BYTES 49942 /* of the longest message */
@@ -81,7 +83,7 @@ typedef enum kadalumbir_answer {
     KADALUMBIR_ABSENT = 10,          /* remove: name absent */
     KADALUMBIR_FULL = 11,            /* insert: page has 256 slots */
     KADALUMBIR_NO_NEW_NAME = 12,     /* no new name by the rule */
-    KADALUMBIR_BAD_TABLE = 13,       /* epoch table breaks its layout */
+    KADALUMBIR_BAD_TABLE = 13,       /* epoch table breaks its layout, or the count given to add is none of 1..256 */
     KADALUMBIR_NO_EPOCH = 14,        /* current or parent index not in the table */
     KADALUMBIR_MALFORMED = 15,       /* message, or the parts given for one, malformed */
     KADALUMBIR_NO_GAP = 16,          /* gap beyond the page */
@@ -107,7 +109,7 @@ uint64_t kadalumbir_check_page(const uint8_t *page, size_t page_len);
 /* Refuses 3. Stack: 140 bytes. */
 uint64_t kadalumbir_check_log(const uint8_t *log, size_t log_len);
 
-/* Refuses 13. Stack: 50 bytes. */
+/* Refuses 13. Stack: 40 bytes. */
 uint64_t kadalumbir_check_epochs(const uint8_t *table, size_t table_len);
 
 /* ---- lines: the count is that of the page's slots in `out` */
@@ -151,20 +153,25 @@ uint64_t kadalumbir_from_old(const uint8_t *old, size_t old_len, uint8_t *out, s
  * Refuses 1, 2, 6, 8. Stack: 140 bytes. */
 uint64_t kadalumbir_to_old(const uint8_t *page, size_t page_len, uint8_t *out, size_t out_len);
 
-/* ---- epochs: each entry of the table but the first is the rename of its node and sequence */
+/* ---- epochs: each entry of the table but the first is the rename of its node and sequence. Epochs compare by their paths
+ * from entry 0, entry by entry: by count, then node, then sequence; a prefix is smaller. So of renames made at the same
+ * time the one of the longer log stands, whatever the units' numbers are. */
 
 enum { KADALUMBIR_STAY = 0, KADALUMBIR_UP = 1, KADALUMBIR_DOWN = 2 };
 
-/* Sets the next step from entry `current` to the epoch that all units go to: stay there, up to the parent (take that
- * rename back), or down to a child (rename), and the index of the parent or child; the index is 0 for stay. Following
- * it comes to the target after at most 31 steps. The count is 0.
- * Refuses 13, 14. Stack: 360 bytes. */
+/* Sets the next step from entry `current` to the target, the greatest epoch, where all units go: stay there, up to the
+ * parent (take that rename back), or down to a child (rename), and the index of the parent or child; the index is 0 for
+ * stay. Following it comes to the target after at most 31 steps. The count is 0.
+ * Refuses 13, 14. Stack: 400 bytes. */
 uint64_t kadalumbir_next_step(const uint8_t *table, size_t table_len, size_t current, uint8_t *step, uint32_t *index);
 
-/* Writes the table with one more entry, of (node, sequence) under entry `parent`. The count is that of its entries.
- * Refuses 13, 14, 4, 17, 18, 8. Stack: 100 bytes. */
+/* Writes the table with one more entry, of (node, sequence) under entry `parent`. `count` is the number of names in the
+ * rename's own log, 1..256: log_len / KADALUMBIR_SLOT_BYTES, or what kadalumbir_read_message counted in the rename's
+ * message. It is the same on every unit; a unit that gave another number would choose another target, and end apart. The
+ * count that comes back is that of the table's entries.
+ * Refuses 13 (table), 14, 4, 13 (`count`), 17, 18, 8. Stack: 70 bytes. */
 uint64_t kadalumbir_add_epoch(const uint8_t *table, size_t table_len, size_t parent, uint16_t node, uint32_t sequence,
-                              uint8_t *out, size_t out_len);
+                              uint16_t count, uint8_t *out, size_t out_len);
 
 /* ---- messages */
 

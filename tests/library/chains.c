@@ -3,18 +3,23 @@
 #include "bytes.h"
 #include "sorts.h"
 
-/* The renames that the book has had and that are not taken back, each with its log and author. */
+/* The renames that the book has had and that are not taken back, each with its log, its author and the epoch before. */
 enum { RENAMES = 3 };
 
 static struct {
     Bytes log;
     uint16_t node;
     uint32_t sequence;
+    size_t parent;
 } renames[RENAMES];
 
 static size_t renamed;
 
 static Bytes page, slot, spoilt, old;
+
+/* The epochs of all renames of the book, taken back or not, and the one that its names belong to. */
+static Bytes table;
+static size_t epoch;
 
 /* The unit that edits; each of its new names has a sequence of its own. */
 static uint16_t unit;
@@ -128,6 +133,28 @@ static void edit(size_t times)
     }
 }
 
+/* "Entry 0 is all zero." */
+static void make_first_epoch(void)
+{
+    Entry zero = {0, 0, 0, 0};
+    write_entry(table.bytes, zero);
+    table.length = ENTRY_BYTES;
+    epoch = 0;
+}
+
+/* 02, P1: "An epoch entry is to carry the number of names in its rename's log" */
+static void add_book_epoch(uint16_t node, uint32_t sequence, const Bytes *log)
+{
+    Path walked;
+    Outcome outcome = hold_add_epoch(&table, epoch, node, sequence, (uint16_t)slots_of(log),
+                                     chain_room(table.length + ENTRY_BYTES));
+    if (outcome.answer != ACCEPTED)
+        return;
+    take_output(&table, outcome.count * ENTRY_BYTES);
+    epoch = outcome.count - 1;
+    hold_walk(&table, random_below(outcome.count), &walked);
+}
+
 /* Renames the book; now and then the log has names of lines that were removed since. */
 static void rename_book(void)
 {
@@ -143,7 +170,9 @@ static void rename_book(void)
         return;
     renames[renamed].node = node;
     renames[renamed].sequence = sequence;
+    renames[renamed].parent = epoch;
     renamed++;
+    add_book_epoch(node, sequence, log);
 }
 
 static void take_book_back(void)
@@ -151,6 +180,7 @@ static void take_book_back(void)
     if (renamed == 0)
         return;
     renamed--;
+    epoch = renames[renamed].parent;
     go_on(hold_take_back(&page, &renames[renamed].log, renames[renamed].node, renames[renamed].sequence,
                          chain_room(page.length)));
 }
@@ -158,6 +188,7 @@ static void take_book_back(void)
 void book_chain(void)
 {
     page.length = 0;
+    make_first_epoch();
     renamed = 0;
     unit = (uint16_t)(1 + random_below(3));
     next_sequence = 0;

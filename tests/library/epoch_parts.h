@@ -1,5 +1,6 @@
-/* Random arguments of the calls on epoch tables, near the edges: few numbers, so that epochs meet in node or sequence; chains,
- * stars and what lies between; small tables and full ones; now and then something broken, or an index that is not there. */
+/* Random arguments of the calls on epoch tables, near the edges: few numbers, so that epochs meet in node, sequence or
+ * count; chains, stars and what lies between; small tables and full ones; now and then something broken, an index that
+ * is not there, or a count that may not be. */
 #ifndef TESTS_LIBRARY_EPOCH_PARTS_H
 #define TESTS_LIBRARY_EPOCH_PARTS_H
 
@@ -30,5 +31,8 @@ Entry epoch_to_add(const Row *row);
 
 /* An index of the table, or now and then one that is not there. */
 uint32_t random_index(const Row *row);
+
+/* The count to add, or now and then one at the edges, mostly outside 1..256. */
+uint16_t maybe_bad_count(uint16_t count);
 
 #endif

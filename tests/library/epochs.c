@@ -52,7 +52,7 @@ void add_case(void)
 {
     Row row = begin_table(10, 20);
     Entry added = epoch_to_add(&row);
-    hold_add_epoch(&table, any_index(&row), maybe_no_node(added.node), added.sequence,
+    hold_add_epoch(&table, any_index(&row), maybe_no_node(added.node), added.sequence, maybe_bad_count(added.count),
                    room_for(table.length + ENTRY_BYTES));
 }
 
@@ -60,7 +60,7 @@ void add_case(void)
 
 void epoch_chain(void)
 {
-    Row row = {1, {{0, 0, 0}}};
+    Row row = {1, {{0, 0, 0, 0}}};
     Path walked;
     choose_epoch_numbers();
     make_table(&row);
@@ -69,7 +69,7 @@ void epoch_chain(void)
         uint32_t parent = random_index(&row);
         Entry added = epoch_to_add(&row);
         Outcome outcome = hold_add_epoch(&table, parent, maybe_no_node(added.node), added.sequence,
-                                         room_for(table.length + ENTRY_BYTES));
+                                         maybe_bad_count(added.count), room_for(table.length + ENTRY_BYTES));
         if (outcome.answer != ACCEPTED)
             continue;
         take_output(&table, outcome.count * ENTRY_BYTES);

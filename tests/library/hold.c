@@ -54,7 +54,7 @@ typedef enum {
 enum { ANSWERS = 19, DIFFERENCES_TOLD = 10 };
 
 /* Of each call the answers that 01 and 02 have for it, ended by -1: "Order" of "What comes back", and "Refusals of a
- * conversion". */
+ * conversion". The 13 of adding stands here once, and among the ways twice. */
 static const struct {
     const char *name;
     int answers[10];
@@ -229,15 +229,18 @@ enum {
 };
 
 /* What has several ways to come to what it gives: the rows of the table of "Renaming one name"; the bullets of "Taking it back"
- * with their cases; the three steps; walks that stay, go down, and go up first; of a message the kinds that are accepted and
- * the reasons of 15. */
+ * with their cases; the reasons of a table's 13; the three steps; by what the target is above an epoch; walks that
+ * stay, go down, and go up first; the two 13 of adding; of a message the kinds that are accepted and the reasons of 15. */
 typedef enum {
     BY_RENAME,
     BY_LONG_RENAME,
     BY_TAKING_BACK,
     BY_LONG_TAKING_BACK,
+    BY_CHECK,
     BY_STEP,
+    BY_TARGET,
     BY_WALK,
+    BY_ADDING,
     BY_WRITING,
     BY_READING,
     HAVE_WAYS
@@ -252,8 +255,11 @@ static const struct {
     [BY_LONG_RENAME] = {"rename, a long log", 6, 10},
     [BY_TAKING_BACK] = {"take_back", 12, 1},
     [BY_LONG_TAKING_BACK] = {"take_back, a long log", 12, 10},
+    [BY_CHECK] = {"check_epochs", 8, 1},
     [BY_STEP] = {"next_step", 3, 1},
+    [BY_TARGET] = {"next_step, the target above an epoch by", 7, 1},
     [BY_WALK] = {"walk", 3, 1},
+    [BY_ADDING] = {"add_epoch, 13 by", 2, 1},
     [BY_WRITING] = {"write_message", 13, 1},
     [BY_READING] = {"read_message", 16, 1},
 };
@@ -316,7 +322,10 @@ Outcome hold_check_epochs(const Bytes *table)
 {
     begin(CHECK_EPOCHS, table, NULL, 0);
     uint64_t is = kadalumbir_check_epochs(first.bytes, first.length);
-    return hold(is, checked(check_table(table->bytes, table->length), table, ENTRY_BYTES));
+    Outcome must = checked(check_table(table->bytes, table->length), table, ENTRY_BYTES);
+    if (must.answer == TABLE_LAYOUT)
+        count_way(BY_CHECK, wrong_with_table(table->bytes, table->length));
+    return hold(is, must);
 }
 
 Outcome hold_insert(const Bytes *page, const Bytes *slot, size_t room)
@@ -436,6 +445,16 @@ Outcome hold_new_and_back(const Bytes *old)
     return hold_there_and_back(old, SLOT_BYTES, hold_from_old, hold_to_old);
 }
 
+/* Of an accepted step. */
+static void count_step(const Bytes *table, size_t current, int step)
+{
+    Table entries;
+    read_table(table->bytes, table->length, &entries);
+    count_way(BY_STEP, step == STAY ? "stay" : step == UP ? "up" : "down");
+    if (step != STAY)
+        count_way(BY_TARGET, above_by(&entries, current));
+}
+
 Outcome hold_next_step(const Bytes *table, size_t current, uint8_t *step, uint32_t *index)
 {
     begin(NEXT_STEP, table, NULL, 0);
@@ -446,7 +465,7 @@ Outcome hold_next_step(const Bytes *table, size_t current, uint8_t *step, uint32
     hold_number("the step", *step, (uint64_t)next.step);
     hold_number("the index", *index, next.index);
     if (next.answer == ACCEPTED)
-        count_way(BY_STEP, next.step == STAY ? "stay" : next.step == UP ? "up" : "down");
+        count_step(table, current, next.step);
     return hold(is, refused(next.answer));
 }
 
@@ -480,11 +499,13 @@ int hold_walk(const Bytes *table, size_t current, Path *walked)
     return answer;
 }
 
-Outcome hold_add_epoch(const Bytes *table, size_t parent, uint16_t node, uint32_t sequence, size_t room)
+Outcome hold_add_epoch(const Bytes *table, size_t parent, uint16_t node, uint32_t sequence, uint16_t count, size_t room)
 {
     begin(ADD_EPOCH, table, NULL, room);
-    uint64_t is = kadalumbir_add_epoch(first.bytes, first.length, parent, node, sequence, output.bytes, room);
-    Outcome must = add_epoch(table->bytes, table->length, parent, node, sequence, must_bytes + FRONT, room);
+    uint64_t is = kadalumbir_add_epoch(first.bytes, first.length, parent, node, sequence, count, output.bytes, room);
+    Outcome must = add_epoch(table->bytes, table->length, parent, node, sequence, count, must_bytes + FRONT, room);
+    if (must.answer == TABLE_LAYOUT)
+        count_way(BY_ADDING, check_table(table->bytes, table->length) == ACCEPTED ? "the given count" : "the table");
     return hold(is, must);
 }
 

@@ -31,7 +31,8 @@ Outcome hold_take_back(const Bytes *page, const Bytes *log, uint16_t node, uint3
 Outcome hold_from_old(const Bytes *old, size_t room);
 Outcome hold_to_old(const Bytes *page, size_t room);
 Outcome hold_next_step(const Bytes *table, size_t current, uint8_t *step, uint32_t *index);
-Outcome hold_add_epoch(const Bytes *table, size_t parent, uint16_t node, uint32_t sequence, size_t room);
+Outcome hold_add_epoch(const Bytes *table, size_t parent, uint16_t node, uint32_t sequence, uint16_t count,
+                       size_t room);
 Outcome hold_write_message(const Numbers *numbers, const Bytes *names, size_t room);
 Outcome hold_read_message(const Bytes *message, Numbers *numbers, size_t room);
 

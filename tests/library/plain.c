@@ -87,9 +87,9 @@ uint64_t kadalumbir_next_step(const uint8_t *table, size_t table_len, size_t cur
 }
 
 uint64_t kadalumbir_add_epoch(const uint8_t *table, size_t table_len, size_t parent, uint16_t node, uint32_t sequence,
-                              uint8_t *out, size_t out_len)
+                              uint16_t count, uint8_t *out, size_t out_len)
 {
-    return packed(add_epoch(table, table_len, parent, node, sequence, out, out_len));
+    return packed(add_epoch(table, table_len, parent, node, sequence, count, out, out_len));
 }
 
 uint64_t kadalumbir_write_message(uint8_t kind, uint16_t epoch_node, uint32_t epoch_sequence, uint16_t author_node,

@@ -30,8 +30,8 @@ void long_edit_case(void);
 void long_rename_case(void);
 
 /* Many calls, each with what the library gave before: now and then an old page converted; edits, and between them conversions
- * to an old page and back, a rename, edits, the taking back; a table that grows, walked to its target each time; a message
- * written, read, written again, damaged and read. */
+ * to an old page and back, a rename, whose epoch is added with the number of names in its log, edits, the taking back;
+ * a table that grows, walked to its target each time; a message written, read, written again, damaged and read. */
 void book_chain(void);
 void epoch_chain(void);
 void message_chain(void);

@@ -39,7 +39,7 @@ enum {
     NAME_ABSENT = 10,
     PAGE_FULL = 11,
     NO_NEW_NAME = 12,
-    TABLE_LAYOUT = 13,
+    TABLE_LAYOUT = 13, /* 02, P1: of adding also "13 (the given count)" */
     NO_EPOCH = 14,
     MALFORMED = 15,
     GAP_BEYOND = 16,

@@ -5,8 +5,9 @@
 #include "book.h"
 
 enum {
-    ENTRY_BYTES = 8,  /* "node u16, sequence u32, parent index u16" */
-    ENTRY_LIMIT = 32, /* "An epoch table is 1..32 entries" */
+    ENTRY_BYTES = 10,  /* "node u16, sequence u32, parent index u16"; 02, P1: "Entries become 10 bytes" */
+    ENTRY_LIMIT = 32,  /* "An epoch table is 1..32 entries" */
+    COUNT_LIMIT = 256, /* 02, P1: "the number of names in its rename's log (u16, 1..256)" */
     TABLE_BYTES = ENTRY_LIMIT * ENTRY_BYTES
 };
 
@@ -14,6 +15,7 @@ typedef struct {
     uint16_t node;
     uint32_t sequence;
     uint16_t parent;
+    uint16_t count; /* 02, P1: "the count after the parent index" */
 } Entry;
 
 typedef struct {
@@ -41,6 +43,9 @@ typedef struct {
 Entry read_entry(const uint8_t *bytes);
 void write_entry(uint8_t *bytes, Entry entry);
 
+/* Why the table breaks its layout, in words; NULL where it does not. */
+const char *wrong_with_table(const uint8_t *bytes, size_t length);
+
 /* ACCEPTED or TABLE_LAYOUT. */
 int check_table(const uint8_t *bytes, size_t length);
 
@@ -51,9 +56,13 @@ void read_table(const uint8_t *bytes, size_t length, Table *table);
  * the last epoch that the paths of both have, and down from there. Empty at the target. */
 Path way_to_target(const Table *table, size_t current);
 
+/* By what the target is above an epoch that is not the target, in words: what of their paths differs first, and whether
+ * that goes against what would be asked next. */
+const char *above_by(const Table *table, size_t current);
+
 /* The tables are bytes as they come; out has room bytes. */
 NextStep next_step(const uint8_t *bytes, size_t length, size_t current);
-Outcome add_epoch(const uint8_t *bytes, size_t length, size_t parent, uint16_t node, uint32_t sequence, uint8_t *out,
-                  size_t room);
+Outcome add_epoch(const uint8_t *bytes, size_t length, size_t parent, uint16_t node, uint32_t sequence, uint16_t count,
+                  uint8_t *out, size_t room);
 
 #endif

@@ -152,12 +152,22 @@ fn insert_case(line: &[u8], at: usize) {
 
 // ── epochs ──
 
-// "(1,1) and (2,2) under the first, (1,1) with child (3,6), (2,2) with child (2,7)": node, sequence and parent of each
-const EPOCHS: [u8; 40] =
-    *b"\0\0\0\0\0\0\0\0\0\x01\0\0\0\x01\0\0\0\x02\0\0\0\x02\0\0\0\x03\0\0\0\x06\0\x01\0\x02\0\0\0\x07\0\x02";
+// "(1,1) and (2,2) under the first, (1,1) with child (3,6), (2,2) with child (2,7)": node, sequence, parent and count of each; "01's
+// epoch case stands with equal counts" (02, P1), of which each here is 3
+const EPOCHS: [u8; 50] =
+    *b"\0\0\0\0\0\0\0\0\0\0\0\x01\0\0\0\x01\0\0\0\x03\0\x02\0\0\0\x02\0\0\0\x03\0\x03\0\0\0\x06\0\x01\0\x03\0\x02\0\0\0\x07\0\x02\0\x03";
 
-fn step_case(line: &[u8], at: usize) {
-    let next = epochs::next_step(&EPOCHS, number(line, at).value as usize);
+// 02, P1, "The logger from the drawer": the crew's (2,41), (1,57) and (3,63), one under the other, of 180, 200 and 214 names, and the
+// spare logger's (900,5) under the first, of three
+const DRAWER: [u8; 50] =
+    *b"\0\0\0\0\0\0\0\0\0\0\0\x02\0\0\0\x29\0\0\0\xb4\0\x01\0\0\0\x39\0\x01\0\xc8\0\x03\0\0\0\x3f\0\x02\0\xd6\x03\x84\0\0\0\x05\0\0\0\x03";
+
+// the same with equal counts, so that node and sequence decide alone
+const LEVEL: [u8; 50] =
+    *b"\0\0\0\0\0\0\0\0\0\0\0\x02\0\0\0\x29\0\0\0\x03\0\x01\0\0\0\x39\0\x01\0\x03\0\x03\0\0\0\x3f\0\x02\0\x03\x03\x84\0\0\0\x05\0\0\0\x03";
+
+fn step_case(line: &[u8], at: usize, table: &[u8]) {
+    let next = epochs::next_step(table, number(line, at).value as usize);
     say(
         epochs::step_number(next) as u64,
         epochs::step_index(next) as u64,
@@ -180,7 +190,11 @@ fn run(line: &[u8], log: &[u8]) {
     } else if begins(line, b"insert") {
         insert_case(line, 7);
     } else if begins(line, b"step") {
-        step_case(line, 5);
+        step_case(line, 5, &EPOCHS);
+    } else if begins(line, b"spare") {
+        step_case(line, 6, &DRAWER);
+    } else if begins(line, b"level") {
+        step_case(line, 6, &LEVEL);
     } else {
         end_line();
     }

@@ -15,7 +15,7 @@ use Rattle.names.specs.declared.Order.the-variants.{Less, Same, More}
 use Rattle.names.specs.Ordering.{isLess}
 use Rattle.names.proofs.Laws.{ℕ-cases}
 use Rattle.numbers.proofs.Bools.{yes-no}
-use Rattle.epoch_tree.specs.Tables.{Entry, zeroEntry, entryAt, isTable, added}
+use Rattle.epoch_tree.specs.Tables.{Entry, zeroEntry, entryAt, isCount, isTable, added}
 use Rattle.epoch_tree.specs.Tree.{parentOf, routeWithin, route, path, comparePaths, compareEpochs, Smaller, greatestTo, greater, target}
 use Rattle.epoch_tree.specs.Laws.{Addable}
 use Rattle.epoch_tree.proofs.TableFacts.{Table, is-table, not-listed, pair-same}
@@ -69,11 +69,14 @@ module _ (t : List Entry) (h : Table t) (e : Entry) where
     new-at : (i : ℕ) → i ≡ length t → entryAt (added t e) i ≡ e
     new-at i q = ap (entryAt (added t e)) q ∙ new-entry
 
-    node-at : (i : ℕ) → suc i < length (added t e) → 1 ≤ entryAt (added t e) (suc i) .node
-    node-at i l = elim (ℕ-cases (suc i) (length t)) [
-      | inl k ↦ rw (added-entry (suc i) k) (h .node i k)
+    -- what holds of each entry but entry 0, and of the new one
+    each-at :
+        (P : Entry → Type 0) → ((i : ℕ) → suc i < length t → P (entryAt t (suc i))) → P e →
+        (i : ℕ) → suc i < length (added t e) → P (entryAt (added t e) (suc i))
+    each-at P f p i l = elim (ℕ-cases (suc i) (length t)) [
+      | inl k ↦ rw (added-entry (suc i) k) (f i k)
       | inr r ↦ elim r [
-        | inl k ↦ rw (new-at (suc i) k) (m .has-node)
+        | inl k ↦ rw (new-at (suc i) k) p
         | inr k ↦ absurd (let q = added-length in omega arith)
       ]
     ]
@@ -113,7 +116,8 @@ module _ (t : List Entry) (h : Table t) (e : Entry) where
       some = let q = added-length in omega arith;
       few = let q = added-length in let p : length t < 32 = m .has-room in omega arith;
       first = added-entry 0 (h .some) ∙ h .first;
-      node = node-at;
+      node = each-at (λ (x : Entry). 1 ≤ x .node) (h .node) (m .has-node);
+      count = each-at (λ (x : Entry). isCount (x .count) ≡ true) (h .count) (m .has-count);
       parent = parent-at;
       pair = pair-at;
     }

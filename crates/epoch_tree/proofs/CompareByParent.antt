@@ -17,7 +17,7 @@ use Rattle.epoch_tree.proofs.TableFacts.{Table}
 use Rattle.epoch_tree.proofs.Routes.{Snoc, none, some, snoc, snoc-length, snoc-same, route-suc, route-ends, route-begins, route-same, beginning, path-suc}
 use Rattle.epoch_tree.proofs.OrderAndTarget.{keyTuple, keys-tuples, keys-index}
 
-key-same : (e : Entry) → compareKeys e e ≡ Same
+pub key-same : (e : Entry) → compareKeys e e ≡ Same
 key-same e = keys-tuples e e ∙ tuple-same (keyTuple e)
 
 last-differ : (p : List Entry) (e f : Entry) → comparePaths (p ++ (e ∷ [])) (p ++ (f ∷ [])) ≡ compareKeys e f

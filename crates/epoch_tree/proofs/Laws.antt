@@ -6,7 +6,10 @@ use mathlib.Core.Bool.{true}
 use Prim.Native.Nat.{ℕ, zero, suc, _<_, _≤_}
 use native.Mathlib.Nat.{le-refl}
 use native.Mathlib.Omega.{arith}
+use borrow.Author.Tests.{leb-true}
+use lib.Dec.{leb}
 use lib.ListN.{length}
+use Rattle.numbers.proofs.Bools.{and-0, and-1}
 use Rattle.names.specs.declared.Order.{Order}
 use Rattle.names.proofs.Laws.{Tri, below, level, above}
 use Rattle.epoch_tree.specs.declared.Step.{Step}
@@ -15,9 +18,10 @@ use Rattle.epoch_tree.specs.Tree.{parentOf, path, Smaller, target, edges
 use Rattle.epoch_tree.specs.Laws.{OneEdge, OfTable, Laws}
 use Rattle.epoch_tree.proofs.TableFacts.{Table, table, parent-below}
 use Rattle.epoch_tree.proofs.Routes.{path-suc}
-use Rattle.epoch_tree.proofs.OrderAndTarget.{smaller-irrefl, smaller-trans, smaller-tri, same-epochs, target-in, target-greatest, none-above, agree-on, same-target}
+use Rattle.epoch_tree.proofs.OrderAndTarget.{smaller-irrefl, smaller-trans, smaller-tri, same-epochs, target-in, target-greatest, none-above, agree-on}
 use Rattle.epoch_tree.proofs.Walk.{Edge, stays, goesUp, goesDown, edge, edges-few, walk-in, walk-edges, walk-reaches, walk-not-before, stay-at-target}
 use Rattle.epoch_tree.proofs.AddedEpoch.{added-table, new-path, added-path, new-target}
+use Rattle.epoch_tree.proofs.TwoTables.{same-target, same-pair, same-added}
 use Rattle.epoch_tree.proofs.TableBytes.{written-table, entries-back, table-back}
 
 module _ (t : List Entry) (k : isTable t ≡ true) where
@@ -27,6 +31,13 @@ module _ (t : List Entry) (k : isTable t ≡ true) where
   node-at : (i : ℕ) → 1 ≤ i → i < length t → 1 ≤ entryAt t i .node
   node-at zero a l = absurd (omega arith)
   node-at (suc i) a l = h .node i l
+
+  count-at : (i : ℕ) → 1 ≤ i → i < length t → (1 ≤ entryAt t i .count) × (entryAt t i .count ≤ 256)
+  count-at zero a l = absurd (omega arith)
+  count-at (suc i) a l =
+      let n = entryAt t (suc i) .count in
+      let c = h .count i l in
+      (leb-true 1 n (and-0 (leb 1 n) (leb n 256) c), leb-true n 256 (and-1 (leb 1 n) (leb n 256) c))
 
   traced-at : (i : ℕ) → 1 ≤ i → i < length t → path t i ≡ path t (parentOf t i) ++ (entryAt t i ∷ [])
   traced-at zero a l = absurd (omega arith)
@@ -51,6 +62,7 @@ module _ (t : List Entry) (k : isTable t ≡ true) where
       node = node-at;
       parent = λ i a l. parent-below t h i a;
       pair = same-epochs t h;
+      count = count-at;
     };
     traced = record { from-first = refl; to-it = traced-at };
     ordered = record {
@@ -83,4 +95,6 @@ laws = record {
   bytes-back = table-back;
   agree-on = agree-on;
   same-target = λ t u a b. same-target t u (table t a) (table u b);
+  same-pair = λ t u a b. same-pair t u (table t a) (table u b);
+  same-added = λ t u a b. same-added t u (table t a) (table u b);
 }

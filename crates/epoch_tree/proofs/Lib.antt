@@ -7,5 +7,7 @@ pub mod Walk
 pub mod StepByParent
 pub mod AddedEpoch
 pub mod TableBytes
+pub mod TwoTables
 pub mod Laws
+pub mod Counts
 pub mod CaseHolds

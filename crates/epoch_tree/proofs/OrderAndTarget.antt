@@ -1,7 +1,7 @@
 -- The comparison of paths is the comparison of rows of tuples (`paths-rows`), so its laws are those of names. On the epochs of a table
 -- it is a strict total order: `smaller-tri`, `smaller-trans`, `smaller-irrefl`; different epochs have different paths
 -- (`epochs-same`). The target is one of them (`target-in`), and greater than each other (`target-greatest`, `none-above`). Paths
--- that agree do with an entry more (`agree-on`), and tables of the same epochs have the same target (`same-target`). Assumes nothing.
+-- that agree do with an entry more (`agree-on`). Assumes nothing.
 use mathlib.Core.Path.{_≡_, refl, sym, ap, subst, _∙_}
 use mathlib.Core.Logic.{_⊎_, inl, inr}
 use mathlib.Core.List.{List, [], _∷_, _++_, map, map-append}
@@ -18,21 +18,21 @@ use Rattle.names.specs.Ordering.{Row, compareℕ, then, compareTuples, compareR
 use Rattle.names.proofs.Laws.{then-same, ℕ-cases, Tri, below, level, above, triN, <ⁿ-trans, <ⁿ-irrefl, row-less, row-same, less-row, same-row, same-tuple}
 use Rattle.epoch_tree.specs.Tables.{Entry, entryAt}
 use Rattle.epoch_tree.specs.Tree.{path, compareKeys, comparePaths, compareEpochs, Smaller, greatestTo, target}
-use Rattle.epoch_tree.specs.Laws.{Covered, SameEpoch}
 use Rattle.epoch_tree.proofs.TableFacts.{Table}
 use Rattle.epoch_tree.proofs.Routes.{snoc-same, path-ends}
 
 -- ── an entry's key as a tuple ──
 
 abbrev pub keyTuple : Entry → Tuple
-keyTuple e = record { position = 0; node = e .node; sequence = e .sequence; offset = pos 0 }
+keyTuple e = record { position = e .count; node = e .node; sequence = e .sequence; offset = pos 0 }
 
 abbrev pub keyRow : List Entry → Row
 keyRow p = map keyTuple p
 
 pub keys-tuples : (e f : Entry) → compareKeys e f ≡ compareTuples (keyTuple e) (keyTuple f)
 unfolding compareTuples
-keys-tuples e f = ap (then (compareℕ (e .node) (f .node))) (sym (then-same (compareℕ (e .sequence) (f .sequence))))
+keys-tuples e f =
+    ap (λ (o : Order). then (compareℕ (e .count) (f .count)) (then (compareℕ (e .node) (f .node)) o)) (sym (then-same (compareℕ (e .sequence) (f .sequence))))
 
 pub paths-rows : (p q : List Entry) → comparePaths p q ≡ compareRows (keyRow p) (keyRow q)
 unfolding compareRows
@@ -43,7 +43,7 @@ paths-rows (e ∷ p) (f ∷ q) = λ i. then (keys-tuples e f i) (paths-rows p q 
 
 -- ── paths that agree ──
 
-same-rows : (p q : List Entry) → comparePaths p q ≡ Same → keyRow p ≡ keyRow q
+pub same-rows : (p q : List Entry) → comparePaths p q ≡ Same → keyRow p ≡ keyRow q
 same-rows p q e = same-row (keyRow p) (keyRow q) (sym (paths-rows p q) ∙ e)
 
 key-end : (p : List Entry) (e : Entry) → keyRow (p ++ (e ∷ [])) ≡ keyRow p ++ (keyTuple e ∷ [])
@@ -60,7 +60,7 @@ agree-on p q e f a b =
     ∙ row-same (keyRow (p ++ (e ∷ [])))
 
 -- the last entries of two tables' paths, which are the epochs' own
-last-key :
+pub last-key :
     (t u : List Entry) → Table t → Table u → (i j : ℕ) →
     keyRow (path t i) ≡ keyRow (path u j) → keyTuple (entryAt t i) ≡ keyTuple (entryAt u j)
 last-key t u h k i j e =
@@ -165,25 +165,3 @@ module _ (t : List Entry) where
       | inl e ↦ smaller-irrefl (target t) (subst (Smaller t (target t)) e s)
       | inr u ↦ smaller-irrefl i (smaller-trans i (target t) i u s)
     ]
-
--- ── two tables of the same epochs ──
-
--- no path of u is above t's target, where each is one of t
-under-target : (t u : List Entry) → Table t → Covered u t → (j : ℕ) → j < length u → ¬ (keyRow (path t (target t)) <ⁿ keyRow (path u j))
-under-target t u h f j l s =
-    let (i, k, e) = f j l in
-    none-above t h i k (row-smaller t (target t) i (subst (λ (r : Row). keyRow (path t (target t)) <ⁿ r) (same-rows (path u j) (path t i) e) s))
-
-module _ (t u : List Entry) (h : Table t) (k : Table u) (f : Covered t u) (g : Covered u t) where
-  targets-agree : comparePaths (path t (target t)) (path u (target u)) ≡ Same
-  targets-agree = paths-rows (path t (target t)) (path u (target u)) ∙ go (triN (keyRow (path t (target t))) (keyRow (path u (target u))))
-    where
-      go : {o : Order} → Tri _<ⁿ_ (keyRow (path t (target t))) (keyRow (path u (target u))) o → o ≡ Same
-      go (below l) = absurd (under-target t u h g (target u) (target-in u k) l)
-      go (level e) = refl
-      go (above l) = absurd (under-target u t k f (target t) (target-in t h) l)
-
-  pub same-target : SameEpoch t (target t) u (target u)
-  same-target =
-      let key = last-key t u h k (target t) (target u) (same-rows (path t (target t)) (path u (target u)) targets-agree) in
-      record { paths = targets-agree; node = ap (λ (x : Tuple). x .node) key; sequence = ap (λ (x : Tuple). x .sequence) key }

@@ -22,13 +22,13 @@ use Rattle.epoch_tree.specs.Laws.{Addable}
 use Rattle.epoch_tree.proofs.TableFacts.{Table, table}
 use Rattle.epoch_tree.proofs.AddedEpoch.{added-table}
 
-entry-≡ : {e f : Entry} → e .node ≡ f .node → e .sequence ≡ f .sequence → e .parent ≡ f .parent → e ≡ f
-entry-≡ a b c = λ i. record { node = a i; sequence = b i; parent = c i }
+entry-≡ : {e f : Entry} → e .node ≡ f .node → e .sequence ≡ f .sequence → e .parent ≡ f .parent → e .count ≡ f .count → e ≡ f
+entry-≡ a b c d = λ i. record { node = a i; sequence = b i; parent = c i; count = d i }
 
 -- ── from entries and back ──
 
 pub entry-back : (e : Entry) (s : Bytes) → entryOf (entryBytes e ++ s) ≡ e
-entry-back e s = entry-≡ (omega arith) (omega arith) (omega arith)
+entry-back e s = entry-≡ (omega arith) (omega arith) (omega arith) (omega arith)
 
 pub written-length : (t : List Entry) → length (flatten (entryPieces t)) ≡ entrySize * length t
 written-length [] = ap length flat-none
@@ -60,7 +60,7 @@ written-table t h =
 bytes-back : (s : Bytes) → Octets s → length s ≡ entrySize → entryBytes (entryOf s) ≡ s
 bytes-back s k l = ext-getD 0 (entryBytes (entryOf s)) s (sym l) at
   where
-    at : (i : ℕ) → i < 8 → getD (entryBytes (entryOf s)) i 0 ≡ getD s i 0
+    at : (i : ℕ) → i < entrySize → getD (entryBytes (entryOf s)) i 0 ≡ getD s i 0
     at zero h = let b = k 1 in omega arith
     at (suc zero) h = let b = k 1 in omega arith
     at (suc (suc zero)) h = let b = k 3 in let c = k 4 in let d = k 5 in omega arith
@@ -69,7 +69,9 @@ bytes-back s k l = ext-getD 0 (entryBytes (entryOf s)) s (sym l) at
     at (suc (suc (suc (suc (suc zero))))) h = let c = k 4 in let d = k 5 in omega arith
     at (suc (suc (suc (suc (suc (suc zero)))))) h = let b = k 7 in omega arith
     at (suc (suc (suc (suc (suc (suc (suc zero))))))) h = let b = k 7 in omega arith
-    at (suc (suc (suc (suc (suc (suc (suc (suc i)))))))) h = absurd (omega arith)
+    at (suc (suc (suc (suc (suc (suc (suc (suc zero)))))))) h = let b = k 9 in omega arith
+    at (suc (suc (suc (suc (suc (suc (suc (suc (suc zero))))))))) h = let b = k 9 in omega arith
+    at (suc (suc (suc (suc (suc (suc (suc (suc (suc (suc i)))))))))) h = absurd (omega arith)
 
 all-back : (n : ℕ) (s : Bytes) → Octets s → length s ≡ entrySize * n → flatten (entryPieces (map entryOf (entryParts n s))) ≡ s
 all-back zero [] k e = flat-none
@@ -105,10 +107,20 @@ length-entries s = length-map (entryParts (length s / entrySize) s) entryOf ∙ 
 
 -- the entry that stands n bytes further on
 entry-on : (n : ℕ) (s : Bytes) (p q : ℕ) → q ≡ n + p → entryIn (drop n s) p ≡ entryIn s q
-entry-on n s p q e = entry-≡ (two-on n s p q e) (four-on n s (p + 2) (q + 2) (omega arith)) (two-on n s (p + 6) (q + 6) (omega arith))
+entry-on n s p q e =
+    entry-≡
+    (two-on n s p q e)
+    (four-on n s (p + 2) (q + 2) (omega arith))
+    (two-on n s (p + 6) (q + 6) (omega arith))
+    (two-on n s (p + 8) (q + 8) (omega arith))
 
 entry-taken : (s : Bytes) → entryOf (take entrySize s) ≡ entryOf s
-entry-taken s = entry-≡ (two-within entrySize s 0 (omega arith)) (four-within entrySize s 2 (omega arith)) (two-within entrySize s 6 (omega arith))
+entry-taken s =
+    entry-≡
+    (two-within entrySize s 0 (omega arith))
+    (four-within entrySize s 2 (omega arith))
+    (two-within entrySize s 6 (omega arith))
+    (two-within entrySize s 8 (omega arith))
 
 entries-at : (n : ℕ) (s : Bytes) (k : ℕ) → k < n → getD (map entryOf (entryParts n s)) k zeroEntry ≡ entryIn s (entrySize * k)
 entries-at zero s k h = absurd (omega arith)

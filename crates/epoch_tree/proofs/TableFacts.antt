@@ -11,7 +11,7 @@ use lib.Dec.{eqb, leb, ltb}
 use lib.ListN.{length, take, drop, getD, length-drop, length-take, List·getD-eq-default}
 use lib.Seq.{getD-take, getD-drop}
 use Rattle.numbers.proofs.Bools.{and-0, and-1, yes-no}
-use Rattle.epoch_tree.specs.Tables.{Entry, maxEntries, zeroEntry, entryAt, isFirst, samePair, listed, keepsEntry, keepsFrom, isTable}
+use Rattle.epoch_tree.specs.Tables.{Entry, maxEntries, zeroEntry, entryAt, isFirst, isCount, samePair, listed, keepsEntry, keepsFrom, isTable}
 use Rattle.epoch_tree.specs.Tree.{parentOf}
 
 -- "An epoch table is 1..32 entries", and what it says of them
@@ -22,6 +22,7 @@ pub record Table (t : List Entry) : Type 0 where
   pub node : (i : ℕ) → suc i < length t → 1 ≤ entryAt t (suc i) .node
   -- past the end too, where an entry is all zero
   pub parent : (i : ℕ) → parentOf t (suc i) ≤ i
+  pub count : (i : ℕ) → suc i < length t → isCount (entryAt t (suc i) .count) ≡ true
   pub pair : (i j : ℕ) → i < j → j < length t → entryAt t j .node ≡ entryAt t i .node → entryAt t j .sequence ≡ entryAt t i .sequence → ⊥
 
 -- "each with a smaller index"
@@ -63,11 +64,13 @@ pair-same e f a b = λ i. eq-eqb (e .node) (f .node) a i && eq-eqb (e .sequence)
 -- entry 0 is zero
 first-zero : (e : Entry) → isFirst e ≡ true → e ≡ zeroEntry
 first-zero e h =
-    let a = and-0 (eqb (e .node) 0 && eqb (e .sequence) 0) (eqb (e .parent) 0) h in
+    let b = and-0 (eqb (e .node) 0 && eqb (e .sequence) 0 && eqb (e .parent) 0) (eqb (e .count) 0) h in
+    let a = and-0 (eqb (e .node) 0 && eqb (e .sequence) 0) (eqb (e .parent) 0) b in
     let p = eqb-true (e .node) 0 (and-0 (eqb (e .node) 0) (eqb (e .sequence) 0) a) in
     let q = eqb-true (e .sequence) 0 (and-1 (eqb (e .node) 0) (eqb (e .sequence) 0) a) in
-    let r = eqb-true (e .parent) 0 (and-1 (eqb (e .node) 0 && eqb (e .sequence) 0) (eqb (e .parent) 0) h) in
-    λ i. record { node = p i; sequence = q i; parent = r i }
+    let r = eqb-true (e .parent) 0 (and-1 (eqb (e .node) 0 && eqb (e .sequence) 0) (eqb (e .parent) 0) b) in
+    let n = eqb-true (e .count) 0 (and-1 (eqb (e .node) 0 && eqb (e .sequence) 0 && eqb (e .parent) 0) (eqb (e .count) 0) h) in
+    λ i. record { node = p i; sequence = q i; parent = r i; count = n i }
 
 module _ (t : List Entry) (h : isTable t ≡ true) where
   sizes : leb 1 (length t) && leb (length t) maxEntries && isFirst (entryAt t 0) ≡ true
@@ -91,11 +94,17 @@ module _ (t : List Entry) (h : isTable t ≡ true) where
   abbrev named-under : ℕ → Bool
   named-under i = leb 1 (entryAt t i .node) && ltb (parentOf t i) i
 
+  abbrev counted : ℕ → Bool
+  counted i = isCount (entryAt t i .count)
+
   abbrev new-at : ℕ → Bool
   new-at i = not (listed (entryAt t i) (take i t))
 
+  ahead-of-pair : (i : ℕ) → suc i < length t → named-under (suc i) && counted (suc i) ≡ true
+  ahead-of-pair i g = and-0 (named-under (suc i) && counted (suc i)) (new-at (suc i)) (entry i g)
+
   ahead : (i : ℕ) → suc i < length t → named-under (suc i) ≡ true
-  ahead i g = and-0 (named-under (suc i)) (new-at (suc i)) (entry i g)
+  ahead i g = and-0 (named-under (suc i)) (counted (suc i)) (ahead-of-pair i g)
 
   node-at : (i : ℕ) → suc i < length t → 1 ≤ entryAt t (suc i) .node
   node-at i g = leb-true 1 (entryAt t (suc i) .node) (and-0 (leb 1 (entryAt t (suc i) .node)) (ltb (parentOf t (suc i)) (suc i)) (ahead i g))
@@ -103,11 +112,14 @@ module _ (t : List Entry) (h : isTable t ≡ true) where
   parent-at : (i : ℕ) → suc i < length t → parentOf t (suc i) < suc i
   parent-at i g = ltb-true (parentOf t (suc i)) (suc i) (and-1 (leb 1 (entryAt t (suc i) .node)) (ltb (parentOf t (suc i)) (suc i)) (ahead i g))
 
+  count-at : (i : ℕ) → suc i < length t → isCount (entryAt t (suc i) .count) ≡ true
+  count-at i g = and-1 (named-under (suc i)) (counted (suc i)) (ahead-of-pair i g)
+
   pairs : (i j : ℕ) → i < j → j < length t → samePair (entryAt t j) (entryAt t i) ≡ false
   pairs i zero g k = absurd (omega arith)
   pairs i (suc j) g k =
       let f = entryAt t (suc j) in
-      let n = not-true (listed f (take (suc j) t)) (and-1 (named-under (suc j)) (new-at (suc j)) (entry j k)) in
+      let n = not-true (listed f (take (suc j) t)) (and-1 (named-under (suc j) && counted (suc j)) (new-at (suc j)) (entry j k)) in
       let l : i < length (take (suc j) t) = rw (length-take (suc j) t) (omega arith) in
       rw (getD-take (suc j) t i zeroEntry g) at (not-listed f (take (suc j) t) i n l)
 
@@ -118,6 +130,7 @@ module _ (t : List Entry) (h : isTable t ≡ true) where
     few = leb-true (length t) maxEntries (and-1 (leb 1 (length t)) (leb (length t) maxEntries) within-sizes);
     first = first-zero (entryAt t 0) (and-1 (leb 1 (length t) && leb (length t) maxEntries) (isFirst (entryAt t 0)) sizes);
     node = node-at;
+    count = count-at;
     parent = λ i. elim (decLt (suc i) (length t)) [
       | yes g ↦ let z : parentOf t (suc i) < suc i = parent-at i g in omega arith
       | no g ↦ let q : parentOf t (suc i) ≡ 0 = ap (λ (e : Entry). e .parent) (List·getD-eq-default t zeroEntry (omega arith)) in omega arith
@@ -157,7 +170,7 @@ is-table t h = both (both (both (le-leb 1 (length t) (h .some)) (le-leb (length 
     entry-kept : (i : ℕ) → suc i < length t → keepsEntry t (suc i) (entryAt t (suc i)) ≡ true
     entry-kept i g =
         let p : parentOf t (suc i) ≤ i = h .parent i in
-        both (both (le-leb 1 (entryAt t (suc i) .node) (h .node i g)) (lt-ltb (parentOf t (suc i)) (suc i) (omega arith)))
+        both (both (both (le-leb 1 (entryAt t (suc i) .node) (h .node i g)) (lt-ltb (parentOf t (suc i)) (suc i) (omega arith))) (h .count i g))
         (ap not (none-listed (entryAt t (suc i)) (take (suc i) t) new))
       where
         new : (j : ℕ) → j < length (take (suc i) t) → samePair (entryAt t (suc i)) (getD (take (suc i) t) j zeroEntry) ≡ false

@@ -1,5 +1,5 @@
--- What holds of every epoch table: document 01, "Pages, logs, epochs" and "Epoch tree". Each record is some sentences of 01, or what
--- is built on them. An epoch is the index of its entry, so it is one of the table's where it is below the number of entries.
+-- What holds of every epoch table: document 01, "Pages, logs, epochs" and "Epoch tree", with 02's P1. Each record is some sentences of
+-- these, or what is built on them. An epoch is the index of its entry, so it is one of the table's where it is below the number of entries.
 use Prim.Native.Nat.{ℕ, _-_, _<_, _≤_}
 use mathlib.Core.Path.{_≡_}
 use mathlib.Core.Logic.{_⊎_}
@@ -10,7 +10,7 @@ use Rattle.names.specs.declared.Order.the-variants.{Same}
 use Rattle.numbers.specs.Bytes.{Bytes, Octets}
 use Rattle.epoch_tree.specs.declared.Step.{Step}
 use Rattle.epoch_tree.specs.declared.Step.the-variants.{Stay, Up, Down}
-use Rattle.epoch_tree.specs.Tables.{Entry, maxEntries, zeroEntry, entryAt, entriesOf, entryPieces, listed, isTable, keepsTable, added}
+use Rattle.epoch_tree.specs.Tables.{Entry, maxEntries, zeroEntry, entryAt, entriesOf, entryPieces, isCount, listed, isTable, keepsTable, added}
 use Rattle.epoch_tree.specs.Tree.{parentOf, path, compareKeys, comparePaths, Smaller, target, nextStep, walk, edges}
 
 -- ── the entries ──
@@ -28,6 +28,8 @@ pub record Entries (t : List Entry) : Type 0 where
   pub pair :
       (i j : ℕ) → i < length t → j < length t →
       entryAt t i .node ≡ entryAt t j .node → entryAt t i .sequence ≡ entryAt t j .sequence → i ≡ j
+  -- 02, P1: "the number of names in its rename's log (u16, 1..256)"
+  pub count : (i : ℕ) → 1 ≤ i → i < length t → (1 ≤ entryAt t i .count) × (entryAt t i .count ≤ 256)
 
 -- ── the paths and their order ──
 
@@ -76,11 +78,12 @@ pub record Follows (t : List Entry) (c : ℕ) : Type 0 where
 
 -- ── adding ──
 
--- an entry that may be added: its parent is in the table (else 14), its node is at least 1 (else 4), no entry has its
--- (node, sequence) (else 17), and the table has fewer than 32 entries (else 18)
+-- an entry that may be added: its parent is in the table (else 14), its node is at least 1 (else 4), its count is one of 1..256 (else
+-- 13), no entry has its (node, sequence) (else 17), and the table has fewer than 32 entries (else 18)
 pub record Addable (t : List Entry) (e : Entry) : Type 0 where
   pub in-table : e .parent < length t
   pub has-node : 1 ≤ e .node
+  pub has-count : isCount (e .count) ≡ true
   pub unlisted : listed e t ≡ false
   pub has-room : length t < maxEntries
 
@@ -115,15 +118,20 @@ pub record OfTable (t : List Entry) : Type 0 where
 
 -- ── two tables ──
 
--- each path of t is one of u, node by node and sequence by sequence: the two may list their epochs in different orders
+-- each path of t is one of u, entry by entry of one count, node and sequence: the two may list their epochs in different orders
 abbrev pub Covered : List Entry → List Entry → Type 0
 Covered t u = (i : ℕ) → i < length t → (j : ℕ) × (j < length u) × (comparePaths (path t i) (path u j) ≡ Same)
 
--- epoch i of t and epoch j of u are one, by their paths and so by node and sequence
+-- t and u list the same epochs
+abbrev pub SameEpochs : List Entry → List Entry → Type 0
+SameEpochs t u = Covered t u × Covered u t
+
+-- epoch i of t and epoch j of u are one, by their paths and so by count, node and sequence
 pub record SameEpoch (t : List Entry) (i : ℕ) (u : List Entry) (j : ℕ) : Type 0 where
   pub paths : comparePaths (path t i) (path u j) ≡ Same
   pub node : entryAt t i .node ≡ entryAt u j .node
   pub sequence : entryAt t i .sequence ≡ entryAt u j .sequence
+  pub count : entryAt t i .count ≡ entryAt u j .count
 
 -- ── all of them ──
 
@@ -139,3 +147,11 @@ pub record Laws : Type 0 where
   pub same-target :
       (t u : List Entry) → isTable t ≡ true → isTable u ≡ true →
       Covered t u → Covered u t → SameEpoch t (target t) u (target u)
+  -- in such tables a (node, sequence) stands for one epoch
+  pub same-pair :
+      (t u : List Entry) → isTable t ≡ true → isTable u ≡ true → SameEpochs t u → (i j : ℕ) → i < length t → j < length u →
+      entryAt t i .node ≡ entryAt u j .node → entryAt t i .sequence ≡ entryAt u j .sequence → SameEpoch t i u j
+  -- and they still list the same epochs when each gets one of the same key, under what is one epoch in both
+  pub same-added :
+      (t u : List Entry) → isTable t ≡ true → isTable u ≡ true → SameEpochs t u → (e f : Entry) → Addable t e → Addable u f →
+      compareKeys e f ≡ Same → SameEpoch t (e .parent) u (f .parent) → SameEpochs (added t e) (added u f)

@@ -1,4 +1,5 @@
 pub mod Tables
 pub mod Tree
 pub mod Laws
+pub mod Counts
 pub mod Case

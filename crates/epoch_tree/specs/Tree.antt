@@ -1,4 +1,4 @@
--- The epoch tree: document 01, "Epoch tree", and 001, section 5.2. An epoch is the index of its entry in the table t.
+-- The epoch tree: document 01, "Epoch tree", with 02's P1, and 001, section 5.2. An epoch is the index of its entry in the table t.
 use Prim.Native.Nat.{ℕ, zero, suc, _+_, _-_}
 use mathlib.Core.Path.{_≡_}
 use mathlib.Core.List.{List, [], _∷_, _++_, map}
@@ -33,9 +33,14 @@ path t i = map (entryAt t) (route t i)
 
 -- ── the comparison ──
 
--- "by node then sequence": the key of the comparison stands here, and nowhere else
+-- "by node then sequence"
+abbrev pub comparePairs : Entry → Entry → Order
+comparePairs e f = then (compareℕ (e .node) (f .node)) (compareℕ (e .sequence) (f .sequence))
+
+-- 02, P1: "by that number first, then node, then sequence", the number of names in the rename's log. The key of the comparison stands
+-- here, and nowhere else.
 abbrev pub compareKeys : Entry → Entry → Order
-compareKeys e f = then (compareℕ (e .node) (f .node)) (compareℕ (e .sequence) (f .sequence))
+compareKeys e f = then (compareℕ (e .count) (f .count)) (comparePairs e f)
 
 -- "Paths compare entry by entry ..; a proper prefix is smaller (001, section 5.2)."
 abbrev pub comparePaths : List Entry → List Entry → Order

@@ -49,20 +49,20 @@ steps s current step h =
     record { is-table = table; in-table = inside; one-edge = subst (OneEdge (entriesOf s) current) same (table .steps current inside) }
 
 adds :
-    (s : Bytes) (parent : ℕ) (author : Author) (room n : ℕ) → addOutcome s parent author room .answer ≡ Accepted n →
-    Added s parent author n (addOutcome s parent author room .bytes)
-adds s parent author room n h =
-    let a = outcomes.adds s parent author room n h in
-    let e = entryBy author parent in
+    (s : Bytes) (parent : ℕ) (author : Author) (count room n : ℕ) → addOutcome s parent author count room .answer ≡ Accepted n →
+    Added s parent author count n (addOutcome s parent author count room .bytes)
+adds s parent author count room n h =
+    let a = outcomes.adds s parent author count room n h in
+    let e = entryBy author parent count in
     let more = ap (λ (x : Outcome). entriesOf (x .bytes)) (a .wrote) ∙ entries-back (added (entriesOf s) e) in
-    let count : length (entryPieces (added (entriesOf s) e)) ≡ n = ap (λ (x : Outcome). countOf (x .answer)) (sym (a .wrote)) ∙ ap countOf h in
+    let written : length (entryPieces (added (entriesOf s) e)) ≡ n = ap (λ (x : Outcome). countOf (x .answer)) (sym (a .wrote)) ∙ ap countOf h in
     record {
       is-table = of-table s (a .kept);
       addable = a .may;
       adding = of-table s (a .kept) .adding e (a .may);
       second-table = ap (λ (x : Outcome). keepsTable (x .bytes)) (a .wrote) ∙ added-written s (a .kept) e (a .may);
       one-more = more;
-      counted = ap length more ∙ sym (length-map (added (entriesOf s) e) entryBytes) ∙ count;
+      counted = ap length more ∙ sym (length-map (added (entriesOf s) e) entryBytes) ∙ written;
     }
 
 pub laws : Laws

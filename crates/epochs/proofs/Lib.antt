@@ -1,3 +1,4 @@
+pub mod EntryNumbers
 pub mod LoopTurns
 pub mod TreeInArray
 pub mod AddOutcomes

@@ -31,5 +31,5 @@ next-step-settled κs a r s r' s' p q = one p q
 
 pub add-settled :
     (κs : _) (a : _) (r : _) (s : _) (r' : _) (s' : _) → add.Learnt κs a r s → add.Learnt κs a r' s' →
-    (r ≡ r') × (now (s .1 .1 .1 .0) ≡ now (s' .1 .1 .1 .0))
+    (r ≡ r') × (now (s .1 .1 .1 .1 .0) ≡ now (s' .1 .1 .1 .1 .0))
 add-settled κs a r s r' s' p q = (one (p .0) (q .0), one (p .1) (q .1))

@@ -31,6 +31,7 @@ module _ (s : Bytes) (n k : ℕ) (h : k < length (take n s) / entrySize) where
         node = sym (two-within n s (entrySize * k) (omega arith)) i;
         sequence = sym (four-within n s (entrySize * k + 2) (omega arith)) i;
         parent = sym (two-within n s (entrySize * k + 6) (omega arith)) i;
+        count = sym (two-within n s (entrySize * k + 8) (omega arith)) i;
       })
       ∙ sym (entry-at (take n s) k h)
 

@@ -1,4 +1,4 @@
--- What the calls on an epoch table answer and write: document 01, "What comes back".
+-- What the calls on an epoch table answer and write: document 01, "What comes back", with 02's P1.
 use Prim.Native.Nat.{ℕ}
 use mathlib.Core.List.{List, [], _∷_, _++_}
 use mathlib.Core.Bool.{not}
@@ -14,7 +14,7 @@ use Rattle.epoch_tree.specs.declared.Step.{Step}
 use Rattle.epoch_tree.specs.declared.Step.the-variants.{Stay, Up, Down}
 use Rattle.epochs.specs.declared.Next.{Next}
 use Rattle.epochs.specs.declared.Next.the-variants as next
-use Rattle.epoch_tree.specs.Tables.{Entry, maxEntries, entriesOf, entryPieces, listed, keepsTable, added}
+use Rattle.epoch_tree.specs.Tables.{Entry, maxEntries, entriesOf, entryPieces, isCount, listed, keepsTable, added}
 use Rattle.epoch_tree.specs.Tree.{nextStep}
 
 -- "13: epoch table breaks its layout"; else the count of its entries
@@ -58,18 +58,25 @@ nextStepOutcome s current = inOrder (epochTests s current) next.Refused (next.Ta
 
 -- ── adding ──
 
--- the entry of an author's epoch
-abbrev pub entryBy : Author → ℕ → Entry
-entryBy author parent = record { node = author .node; sequence = author .sequence; parent = parent }
+-- the entry of an author's epoch under a parent, with the number of names in the rename's log
+abbrev pub entryBy : Author → ℕ → ℕ → Entry
+entryBy author parent count = record { node = author .node; sequence = author .sequence; parent = parent; count = count }
 
--- "4: author node is 0", "17: epoch to add already listed", "18: epoch table has 32 entries"
+-- "4: author node is 0", 02, P1: "13 (the given count)", "17: epoch to add already listed", "18: epoch table has 32 entries"
 abbrev pub newTests : List Entry → Entry → List Test
-newTests t e = leb 1 (e .node) else NoAuthor ∷ not (listed e t) else Listed ∷ ltb (length t) maxEntries else TableFull ∷ []
+newTests t e =
+    leb 1 (e .node) else NoAuthor
+    ∷ isCount (e .count) else BadTable
+    ∷ not (listed e t) else Listed
+    ∷ ltb (length t) maxEntries else TableFull
+    ∷ []
 
--- "add epoch 13, 14, 4, 17, 18, 8"
+-- 02, P1: "adding goes 13 (table), 14, 4, 13 (the given count), 17, 18, 8"
 abbrev pub addTests : Bytes → Entry → List Test
 addTests s e = epochTests s (e .parent) ++ newTests (entriesOf s) e
 
 -- "Adding an epoch appends one entry in a second table."
-unfoldable pub addOutcome : Bytes → ℕ → Author → ℕ → Outcome
-addOutcome s parent author room = outcome (addTests s (entryBy author parent)) (entryPieces (added (entriesOf s) (entryBy author parent))) room
+unfoldable pub addOutcome : Bytes → ℕ → Author → ℕ → ℕ → Outcome
+addOutcome s parent author count room =
+    let e = entryBy author parent count in
+    outcome (addTests s e) (entryPieces (added (entriesOf s) e)) room

@@ -1,6 +1,6 @@
 // Epochs: the table and its check, the tree, the target, the next step and adding an epoch. Document 01, "Pages, logs, epochs",
-// "Epoch tree" and "What comes back". What a table and its tree are is defined in epoch_tree/specs, what the calls give in specs/. An
-// epoch is the index of its entry in the table.
+// "Epoch tree" and "What comes back", with 02's P1. What a table and its tree are is defined in epoch_tree/specs, what the calls give in
+// specs/. An epoch is the index of its entry in the table.
 ghost use mathlib.Core.Path.{_≡_};
 ghost use mathlib.Core.Bool.{true, cond, not};
 ghost use Prim.Native.Nat.{_+_, _/_, _≤_, _<_};
@@ -9,22 +9,25 @@ ghost use Rattle.names.specs.declared.Order.the-variants.{Less, More};
 ghost use Rattle.names.specs.Ordering.{then, isLess};
 ghost use Rattle.numbers.specs.Bytes.{put};
 ghost use Rattle.answers.specs.Answers.{leaves};
-ghost use Rattle.epoch_tree.specs.Tables.{entrySize, entriesOf, entryAt, entryBytes, isFirst, samePair, listed, keepsEntry, keepsFrom, keepsTable};
+ghost use Rattle.epoch_tree.specs.Tables.{entrySize, entriesOf, entryAt, entryBytes, isFirst, isCount, samePair, listed, keepsEntry, keepsFrom, keepsTable};
 ghost use Rattle.epoch_tree.specs.Tree.{parentOf, compareKeys, compareEpochs, greater, target as targetOf, stepTo, nextStep};
-ghost use Rattle.epochs.specs.Pairs.{pairNumber, Under};
+ghost use Rattle.epochs.specs.Pairs.{pairNumber, restNumber, keyNumber, groups, groupOf, Under};
 ghost use Rattle.epochs.specs.Calls.{checkTable, stepNumber, stepIndex, numberIn, indexIn, answerOf, nextStepOutcome, entryBy, addOutcome};
 use answers::Answer;
 use answers::Refusal;
 use epoch_tree::Step;
 use names::Author;
-use names::Order;
 
-// "entries of 8 bytes: node u16, sequence u32, parent index u16": the entry's size, and the places in it.
-pub const ENTRY: usize = 8;
-
-const SEQUENCE: usize = 2;
+// "node u16, sequence u32, parent index u16", and 02, P1: "Entries become 10 bytes, the count after the parent index": the entry's size, and
+// the places in it.
+pub const ENTRY: usize = 10;
 
 const PARENT: usize = 6;
+
+const COUNT: usize = 8;
+
+// "the number of names in its rename's log (u16, 1..256)": the most names of a log.
+const NAMES: u16 = pages::SLOTS as u16;
 
 // "An epoch table is 1..32 entries": the most entries, and the bytes of the largest table.
 pub const ENTRIES: usize = 32;
@@ -33,30 +36,72 @@ pub const TABLE: usize = ENTRIES * ENTRY;
 
 // ── entries ──
 
+// How many nodes, sequences, parent indices and counts there are: the factors by which numbers that stand side by side are one.
+const NODES: u64 = 65536;
+
+const SEQUENCES: u64 = 4294967296;
+
+const PARENTS: u64 = 65536;
+
+const COUNTS: u32 = 65536;
+
+// "node u16, sequence u32" of entry k as one number: the compiler makes one load of it, of which it takes both.
+fn pair_of(table: &[u8], k: usize) -> u64
+    requires { ⌜ k < length (now table) / entrySize ⌝ }
+    ensures { λ r. ⌜ r ≡ pairNumber (entryAt (entriesOf (now (table .entry))) k) ⌝ }
+{
+    numbers::read_u64(table, ENTRY * k) / PARENTS
+}
+
 fn node_of(table: &[u8], k: usize) -> u16
     requires { ⌜ k < length (now table) / entrySize ⌝ }
     ensures { λ r. ⌜ r ≡ entryAt (entriesOf (now (table .entry))) k .node ⌝ }
 {
-    numbers::read_u16(table, ENTRY * k)
+    (pair_of(table, k) / SEQUENCES) as u16
 }
 
 fn sequence_of(table: &[u8], k: usize) -> u32
     requires { ⌜ k < length (now table) / entrySize ⌝ }
     ensures { λ r. ⌜ r ≡ entryAt (entriesOf (now (table .entry))) k .sequence ⌝ }
 {
-    numbers::read_u32(table, ENTRY * k + SEQUENCE)
+    (pair_of(table, k) % SEQUENCES) as u32
+}
+
+// "parent index u16" and "the count after the parent index", likewise.
+fn rest_of(table: &[u8], k: usize) -> u32
+    requires { ⌜ k < length (now table) / entrySize ⌝ }
+    ensures { λ r. ⌜ r ≡ restNumber (entryAt (entriesOf (now (table .entry))) k) ⌝ }
+{
+    numbers::read_u32(table, ENTRY * k + PARENT)
 }
 
 fn parent_of(table: &[u8], k: usize) -> usize
     requires { ⌜ k < length (now table) / entrySize ⌝ }
     ensures { λ r. ⌜ r ≡ parentOf (entriesOf (now (table .entry))) k ⌝ }
 {
-    numbers::read_u16(table, ENTRY * k + PARENT) as usize
+    (rest_of(table, k) / COUNTS) as usize
+}
+
+fn count_of(table: &[u8], k: usize) -> u16
+    requires { ⌜ k < length (now table) / entrySize ⌝ }
+    ensures { λ r. ⌜ r ≡ entryAt (entriesOf (now (table .entry))) k .count ⌝ }
+{
+    (rest_of(table, k) % COUNTS) as u16
 }
 
 // ── the layout ──
 
-// "Entry 0 is all zero."
+// "the number of names in its rename's log (u16, 1..256)"
+fn count_ok(count: u16) -> bool
+    ensures { λ r. ⌜ r ≡ isCount count ⌝ }
+{
+    if count < 1 {
+        return false;
+    }
+    count <= NAMES
+}
+
+// "entry 0 stays all zero"
 fn first_ok(table: &[u8]) -> bool
     requires { ⌜ 0 < length (now table) / entrySize ⌝ }
     ensures { λ r. ⌜ r ≡ isFirst (entryAt (entriesOf (now (table .entry))) 0) ⌝ }
@@ -67,24 +112,25 @@ fn first_ok(table: &[u8]) -> bool
     if sequence_of(table, 0) != 0 {
         return false;
     }
-    parent_of(table, 0) == 0
-}
-
-// Entry k has that (node, sequence). Sequences are asked first, since more of them differ.
-fn pair_is(table: &[u8], k: usize, author: Author) -> bool
-    requires { ⌜ k < length (now table) / entrySize ⌝ }
-    ensures { λ r. ⌜ r ≡ samePair (entryBy author 0) (entryAt (entriesOf (now (table .entry))) k) ⌝ }
-{
-    if author.sequence != sequence_of(table, k) {
+    if parent_of(table, 0) != 0 {
         return false;
     }
-    author.node == node_of(table, k)
+    count_of(table, 0) == 0
+}
+
+// Entry k has that (node, sequence).
+fn pair_is(table: &[u8], k: usize, author: Author) -> bool
+    requires { ⌜ k < length (now table) / entrySize ⌝ }
+    ensures { λ r. ⌜ r ≡ samePair (entryBy author 0 0) (entryAt (entriesOf (now (table .entry))) k) ⌝ }
+{
+    let pair = (author.node as u64) * SEQUENCES + author.sequence as u64;
+    pair == pair_of(table, k)
 }
 
 // One of the first n entries has that (node, sequence).
 fn is_listed(table: &[u8], n: usize, author: Author) -> bool
     requires { ⌜ n ≤ length (now table) / entrySize ⌝ }
-    ensures { λ r. ⌜ r ≡ listed (entryBy author 0) (take n (entriesOf (now (table .entry)))) ⌝ }
+    ensures { λ r. ⌜ r ≡ listed (entryBy author 0 0) (take n (entriesOf (now (table .entry)))) ⌝ }
 {
     let mut k: usize = 0;
     while k < n {
@@ -96,40 +142,49 @@ fn is_listed(table: &[u8], n: usize, author: Author) -> bool
     false
 }
 
-// Node and sequence of entry k as one number.
-fn pair_of(table: &[u8], k: usize) -> u64
-    requires { ⌜ k < length (now table) / entrySize ⌝ }
-    ensures { λ r. ⌜ r ≡ pairNumber (entryAt (entriesOf (now (table .entry))) k) ⌝ }
+// The nodes in groups: of each group the check keeps the greatest sequence so far. A unit counts its sequences up, so that the next of its
+// own is above it.
+const GROUPS: usize = 8;
+
+fn group_of(node: u16) -> usize
+    ensures { λ r. ⌜ (r ≡ groupOf node) × (r < groups) ⌝ }
 {
-    (node_of(table, k) as u64) * 4294967296 + (sequence_of(table, k) as u64)
+    node as usize % GROUPS
 }
 
-fn larger(a: u64, b: u64) -> u64
-    ensures { λ r. ⌜ (a ≤ r) × (b ≤ r) ⌝ }
+// Entry k is one more of which the greatest sequences are kept.
+fn keep(tops: &mut [u32], table: &[u8], k: usize)
+    requires { ⌜ (k < length (now table) / entrySize) × (length (now tops) ≡ groups) × Under (entriesOf (now table)) k (now tops) ⌝ }
+    ensures { λ _. ⌜ (length (now (tops .exit)) ≡ groups) × Under (entriesOf (now (table .entry))) (k + 1) (now (tops .exit)) ⌝ }
 {
-    if a < b { b } else { a }
+    let group = group_of(node_of(table, k));
+    let sequence = sequence_of(table, k);
+    if tops[group] < sequence {
+        tops[group] = sequence;
+    }
 }
 
-// No entry before entry i has its (node, sequence): a pair above the greatest of theirs is none of them, and another is held against each.
-fn is_new(table: &[u8], i: usize, top: u64) -> bool
-    requires { ⌜ (i < length (now table) / entrySize) × Under (entriesOf (now table)) i top ⌝ }
+// No entry before entry i has its (node, sequence): a sequence above the greatest of its group is none of theirs, and another is held against
+// each.
+fn is_new(table: &[u8], i: usize, tops: &[u32]) -> bool
+    requires { ⌜ (i < length (now table) / entrySize) × (length (now tops) ≡ groups) × Under (entriesOf (now table)) i (now tops) ⌝ }
     ensures { λ r. ⌜ r ≡ not (listed (entryAt (entriesOf (now (table .entry))) i) (take i (entriesOf (now (table .entry))))) ⌝ }
 {
-    if top < pair_of(table, i) {
-        return true;
-    }
     let node = node_of(table, i);
     let sequence = sequence_of(table, i);
+    if tops[group_of(node)] < sequence {
+        return true;
+    }
     if is_listed(table, i, Author { node, sequence }) {
         return false;
     }
     true
 }
 
-// "Every other entry has node at least 1, a parent index below its own index, and a (node, sequence) that no other entry has." The greatest
-// pair before it is at most `top`.
-fn entry_ok(table: &[u8], i: usize, top: u64) -> bool
-    requires { ⌜ (i < length (now table) / entrySize) × Under (entriesOf (now table)) i top ⌝ }
+// "Every other entry has node at least 1, a parent index below its own index, and a (node, sequence) that no other entry has"; "a count
+// outside 1..256 in an entry other than entry 0 is 13". The greatest sequences before it are `tops`.
+fn entry_ok(table: &[u8], i: usize, tops: &[u32]) -> bool
+    requires { ⌜ (i < length (now table) / entrySize) × (length (now tops) ≡ groups) × Under (entriesOf (now table)) i (now tops) ⌝ }
     ensures { λ r. ⌜ r ≡ keepsEntry (entriesOf (now (table .entry))) i (entryAt (entriesOf (now (table .entry))) i) ⌝ }
 {
     if node_of(table, i) < 1 {
@@ -138,7 +193,10 @@ fn entry_ok(table: &[u8], i: usize, top: u64) -> bool
     if i <= parent_of(table, i) {
         return false;
     }
-    is_new(table, i, top)
+    if !count_ok(count_of(table, i)) {
+        return false;
+    }
+    is_new(table, i, tops)
 }
 
 // Every entry but entry 0.
@@ -147,13 +205,14 @@ fn others_ok(table: &[u8]) -> bool
     ensures { λ r. ⌜ r ≡ keepsFrom (entriesOf (now (table .entry))) 1 (drop 1 (entriesOf (now (table .entry)))) ⌝ }
 {
     let n = table.len() / ENTRY;
-    let mut top = pair_of(table, 0);
+    let mut tops = [0u32; GROUPS];
+    keep(&mut tops, table, 0);
     let mut i: usize = 1;
     while i < n {
-        if !entry_ok(table, i, top) {
+        if !entry_ok(table, i, &tops) {
             return false;
         }
-        top = larger(top, pair_of(table, i));
+        keep(&mut tops, table, i);
         i += 1;
     }
     true
@@ -190,14 +249,21 @@ pub fn check_table(table: &[u8]) -> Answer
 
 // ── the comparison ──
 
-// "by node then sequence": the key of the comparison stands here, and nowhere else.
-fn compare_keys(table: &[u8], i: usize, j: usize) -> Order
-    requires { ⌜ (i < length (now table) / entrySize) × (j < length (now table) / entrySize) ⌝ }
-    ensures { λ r. ⌜ r ≡ compareKeys (entryAt (entriesOf (now (table .entry))) i) (entryAt (entriesOf (now (table .entry))) j) ⌝ }
+// "by that number first, then node, then sequence": the key of the comparison stands here, and nowhere else. The three are one number, the
+// count its highest part, so that keys compare as these numbers do.
+fn key_of(table: &[u8], k: usize) -> u64
+    requires { ⌜ k < length (now table) / entrySize ⌝ }
+    ensures { λ r. ⌜ r ≡ keyNumber (entryAt (entriesOf (now (table .entry))) k) ⌝ }
 {
-    let nodes = names::compare_numbers(node_of(table, i) as u32, node_of(table, j) as u32);
-    let sequences = names::compare_numbers(sequence_of(table, i), sequence_of(table, j));
-    names::first_of(nodes, sequences)
+    (count_of(table, k) as u64) * NODES * SEQUENCES + pair_of(table, k)
+}
+
+// The key of entry i is below that of entry j.
+fn is_below(table: &[u8], i: usize, j: usize) -> bool
+    requires { ⌜ (i < length (now table) / entrySize) × (j < length (now table) / entrySize) ⌝ }
+    ensures { λ r. ⌜ r ≡ isLess (compareKeys (entryAt (entriesOf (now (table .entry))) i) (entryAt (entriesOf (now (table .entry))) j)) ⌝ }
+{
+    key_of(table, i) < key_of(table, j)
 }
 
 // ── the tree ──
@@ -220,12 +286,12 @@ fn parent_in(tree: &[u8; TABLE], size: usize, k: usize) -> usize
     byte_at(tree, ENTRY * k + PARENT + 1)
 }
 
-// The key of entry i is below that of entry j.
+// The same of the array's.
 fn key_below(tree: &[u8; TABLE], size: usize, i: usize, j: usize) -> bool
     requires { ⌜ (i < length (take size (now tree)) / entrySize) × (j < length (take size (now tree)) / entrySize) ⌝ }
     ensures { λ r. ⌜ r ≡ isLess (compareKeys (entryAt (entriesOf (take size (now (tree .entry)))) i) (entryAt (entriesOf (take size (now (tree .entry)))) j)) ⌝ }
 {
-    names::is_less(compare_keys(tree, i, j))
+    is_below(tree, i, j)
 }
 
 // The first of two epochs is the smaller by their paths, each "traced back through parents, each with a smaller index"; `tie` is what two
@@ -404,10 +470,10 @@ pub fn next_step(table: &[u8], current: usize) -> Next
 
 // ── adding ──
 
-// An entry from p on, in two words of four bytes.
-fn write_entry(out: &mut [u8], p: usize, author: Author, parent: usize)
+// An entry from p on, in two words of four bytes and the count.
+fn write_entry(out: &mut [u8], p: usize, author: Author, parent: usize, count: u16)
     requires { ⌜ (p + entrySize ≤ length (now out)) × (parent < 65536) ⌝ }
-    ensures { λ _. ⌜ now (out .exit) ≡ put (now (out .entry)) p (entryBytes (entryBy author parent)) ⌝ }
+    ensures { λ _. ⌜ now (out .exit) ≡ put (now (out .entry)) p (entryBytes (entryBy author parent count)) ⌝ }
 {
     numbers::write_u32(
         out,
@@ -415,12 +481,14 @@ fn write_entry(out: &mut [u8], p: usize, author: Author, parent: usize)
         (author.node as u32) * 65536 + author.sequence / 65536,
     );
     numbers::write_u32(out, p + 4, author.sequence % 65536 * 65536 + parent as u32);
+    numbers::write_u16(out, p + COUNT, count);
 }
 
-// 13, 14, 4, 17, 18, 8; else the table with the author's epoch under the parent.
-pub fn add(table: &[u8], parent: usize, author: Author, out: &mut [u8]) -> Answer
-    ensures { λ r. ⌜ r ≡ addOutcome (now (table .entry)) parent author (length (now (out .entry))) .answer ⌝ }
-    ensures { λ r. ⌜ now (out .exit) ≡ leaves (addOutcome (now (table .entry)) parent author (length (now (out .entry)))) (now (out .entry)) ⌝ }
+// 13 (table), 14, 4, 13 (the given count), 17, 18, 8; else the table with the author's epoch under the parent, whose rename's log has so
+// many names.
+pub fn add(table: &[u8], parent: usize, author: Author, count: u16, out: &mut [u8]) -> Answer
+    ensures { λ r. ⌜ r ≡ addOutcome (now (table .entry)) parent author count (length (now (out .entry))) .answer ⌝ }
+    ensures { λ r. ⌜ now (out .exit) ≡ leaves (addOutcome (now (table .entry)) parent author count (length (now (out .entry)))) (now (out .entry)) ⌝ }
 {
     if !table_ok(table) {
         return Answer::Refused(Refusal::BadTable);
@@ -432,6 +500,9 @@ pub fn add(table: &[u8], parent: usize, author: Author, out: &mut [u8]) -> Answe
     if author.node < 1 {
         return Answer::Refused(Refusal::NoAuthor);
     }
+    if !count_ok(count) {
+        return Answer::Refused(Refusal::BadTable);
+    }
     if is_listed(table, n, author) {
         return Answer::Refused(Refusal::Listed);
     }
@@ -442,6 +513,6 @@ pub fn add(table: &[u8], parent: usize, author: Author, out: &mut [u8]) -> Answe
         return Answer::Refused(Refusal::Short);
     }
     numbers::copy(out, 0, table);
-    write_entry(out, table.len(), author, parent);
+    write_entry(out, table.len(), author, parent, count);
     Answer::Accepted(n + 1)
 }

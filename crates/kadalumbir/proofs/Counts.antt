@@ -166,10 +166,10 @@ module _ (page log : Bytes) (author : Author) (room : ℕ) where
 
 -- ── epochs ──
 
-pub add-count : (table : Bytes) (parent : ℕ) (author : Author) (room : ℕ) → countOf (addOutcome table parent author room .answer) < 4294967296
+pub add-count : (table : Bytes) (parent : ℕ) (author : Author) (count room : ℕ) → countOf (addOutcome table parent author count room .answer) < 4294967296
 unfolding addOutcome
-add-count table parent author room =
-    let e = entryBy author parent in
+add-count table parent author count room =
+    let e = entryBy author parent count in
     let t = entriesOf table in
     after-tests (addTests table e) (write (entryPieces (added t e)) room) (λ p.
     wrote (entryPieces (added t e)) room (

@@ -52,7 +52,7 @@ take-back-settled κs a r s r' s' p q = (one (p .0) (q .0), one (p .1) (q .1))
 pub next-step-settled : (κs : _) (a : _) (r : _) (s : _) (r' : _) (s' : _) → next-step.Learnt κs a r s → next-step.Learnt κs a r' s' → (r ≡ r') × (now (s .1 .1 .0) ≡ now (s' .1 .1 .0)) × (now (s .1 .1 .1 .0) ≡ now (s' .1 .1 .1 .0))
 next-step-settled κs a r s r' s' p q = (one (p .0) (q .0), one (p .1 .0) (q .1 .0), one (p .1 .1) (q .1 .1))
 
-pub add-epoch-settled : (κs : _) (a : _) (r : _) (s : _) (r' : _) (s' : _) → add-epoch.Learnt κs a r s → add-epoch.Learnt κs a r' s' → (r ≡ r') × (now (s .1 .1 .1 .1 .0) ≡ now (s' .1 .1 .1 .1 .0))
+pub add-epoch-settled : (κs : _) (a : _) (r : _) (s : _) (r' : _) (s' : _) → add-epoch.Learnt κs a r s → add-epoch.Learnt κs a r' s' → (r ≡ r') × (now (s .1 .1 .1 .1 .1 .0) ≡ now (s' .1 .1 .1 .1 .1 .0))
 add-epoch-settled κs a r s r' s' p q = (one (p .0) (q .0), one (p .1) (q .1))
 
 pub write-message-settled : (κs : _) (a : _) (r : _) (s : _) (r' : _) (s' : _) → write-message.Learnt κs a r s → write-message.Learnt κs a r' s' → (r ≡ r') × (now (s .1 .1 .1 .1 .1 .1 .1 .0) ≡ now (s' .1 .1 .1 .1 .1 .1 .1 .0))

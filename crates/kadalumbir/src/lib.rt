@@ -177,12 +177,13 @@ pub extern "C" fn kadalumbir_add_epoch(
     parent: usize,
     node: u16,
     sequence: u32,
+    count: u16,
     out: &mut [u8],
 ) -> u64
-    ensures { λ r. ⌜ r ≡ packed (addOutcome (now (table .entry)) parent (record { node = node; sequence = sequence }) (length (now (out .entry))) .answer) ⌝ }
-    ensures { λ r. ⌜ now (out .exit) ≡ leaves (addOutcome (now (table .entry)) parent (record { node = node; sequence = sequence }) (length (now (out .entry)))) (now (out .entry)) ⌝ }
+    ensures { λ r. ⌜ r ≡ packed (addOutcome (now (table .entry)) parent (record { node = node; sequence = sequence }) count (length (now (out .entry))) .answer) ⌝ }
+    ensures { λ r. ⌜ now (out .exit) ≡ leaves (addOutcome (now (table .entry)) parent (record { node = node; sequence = sequence }) count (length (now (out .entry)))) (now (out .entry)) ⌝ }
 {
-    pack(epochs::add(table, parent, Author { node, sequence }, out))
+    pack(epochs::add(table, parent, Author { node, sequence }, count, out))
 }
 
 // ── messages ──

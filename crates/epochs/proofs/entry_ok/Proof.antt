@@ -1,9 +1,10 @@
 -- `epochs::entry_ok` meets its contract. Assumes nothing.
+use mathlib.Core.Path.{sym, ap, _∙_}
 use Prim.Native.Nat.{_<_, _≤_}
 use native.Mathlib.Omega.{arith}
 use denote.Ref.{now}
-use borrow.Author.Tests.{le-leb, lt-leb, lt-ltb, le-ltb}
-use Rattle.epoch_tree.specs.Tables.{entryAt, entriesOf}
+use borrow.Author.Tests.{le-leb, lt-leb, lt-ltb, le-ltb, not-true, not-false}
+use Rattle.epoch_tree.specs.Tables.{entryAt, entriesOf, isCount}
 use borrow.Author.Needs.{needs}
 use Rattle.epochs.proofs.entry_ok.Statement.{statement}
 use Rattle.epochs.proofs.entry_ok.Tie as tie
@@ -35,11 +36,16 @@ returns-2 c =
     let not-below : start .args .i ≤ e .parent = omega arith in
     simp (le-leb 1 (e .node) has-node, le-ltb (e .parent) (start .args .i) not-below)
 
-is-new-requires : tie.Need-is-new-requires
-is-new-requires c κs = search needs
+count-of-requires : tie.Need-count-of-requires
+count-of-requires c κs = search needs
+
+count-ok-requires : tie.Need-count-ok-requires
+count-ok-requires c κs = search needs
 
 returns-3 : tie.Need-returns-3
 returns-3 c =
+    let asked : tie.After-count-ok = search needs in
+    let count : tie.After-count-of = search needs in
     let parent : tie.After-parent-of = search needs in
     let node : tie.After-node-of = search needs in
     let start : tie.Start = search needs in
@@ -48,9 +54,38 @@ returns-3 c =
     let p = parent .parent-of .ensures in
     let has-node : 1 ≤ e .node = omega arith in
     let below : e .parent < start .args .i = omega arith in
-    simp (le-leb 1 (e .node) has-node, lt-ltb (e .parent) (start .args .i) below) (c .is-new .ensures)
+    let none = ap isCount (sym (count .count-of .ensures)) ∙ sym (asked .count-ok .ensures) ∙ not-true (asked .count-ok .result) (c .if3 .taken) in
+    simp (le-leb 1 (e .node) has-node, lt-ltb (e .parent) (start .args .i) below, none)
+
+is-new-requires : tie.Need-is-new-requires
+is-new-requires c κs = search needs
+
+returns-4 : tie.Need-returns-4
+returns-4 c =
+    let kept : tie.Else3 = search needs in
+    let asked : tie.After-count-ok = search needs in
+    let count : tie.After-count-of = search needs in
+    let parent : tie.After-parent-of = search needs in
+    let node : tie.After-node-of = search needs in
+    let start : tie.Start = search needs in
+    let e = entryAt (entriesOf (now (start .args .table))) (start .args .i) in
+    let n = node .node-of .ensures in
+    let p = parent .parent-of .ensures in
+    let has-node : 1 ≤ e .node = omega arith in
+    let below : e .parent < start .args .i = omega arith in
+    let counted = ap isCount (sym (count .count-of .ensures)) ∙ sym (asked .count-ok .ensures) ∙ not-false (asked .count-ok .result) (kept .if3 .left) in
+    simp (le-leb 1 (e .node) has-node, lt-ltb (e .parent) (start .args .i) below, counted) (c .is-new .ensures)
 
 pub entry-ok-spec : {M : Type 1} → statement M
 entry-ok-spec =
     tie.close
-    (tie.spec node-of-requires returns parent-of-requires returns-2 is-new-requires returns-3)
+    (tie.spec
+    node-of-requires
+    returns
+    parent-of-requires
+    returns-2
+    count-of-requires
+    count-ok-requires
+    returns-3
+    is-new-requires
+    returns-4)

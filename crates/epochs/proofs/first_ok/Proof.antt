@@ -43,9 +43,28 @@ returns-3 c =
     let e = entryAt (entriesOf (now (start .args .table))) 0 in
     let no-node = eq-eqb (e .node) 0 (sym (node .node-of .ensures) ∙ zero .if1 .left) in
     let no-sequence = eq-eqb (e .sequence) 0 (sym (sequence .sequence-of .ensures) ∙ zeros .if2 .left) in
-    simp (no-node, no-sequence, c .parent-of .ensures)
+    let parent : tie.After-parent-of = search needs in
+    simp (no-node, no-sequence, ne-eqb (e .parent) 0 (λ q. c .if3 .taken (parent .parent-of .ensures ∙ q)))
+
+count-of-requires : tie.Need-count-of-requires
+count-of-requires c κs = search needs
+
+returns-4 : tie.Need-returns-4
+returns-4 c =
+    let start : tie.Start = search needs in
+    let node : tie.After-node-of = search needs in
+    let zero : tie.Else1 = search needs in
+    let sequence : tie.After-sequence-of = search needs in
+    let zeros : tie.Else2 = search needs in
+    let parent : tie.After-parent-of = search needs in
+    let first : tie.Else3 = search needs in
+    let e = entryAt (entriesOf (now (start .args .table))) 0 in
+    let no-node = eq-eqb (e .node) 0 (sym (node .node-of .ensures) ∙ zero .if1 .left) in
+    let no-sequence = eq-eqb (e .sequence) 0 (sym (sequence .sequence-of .ensures) ∙ zeros .if2 .left) in
+    let no-parent = eq-eqb (e .parent) 0 (sym (parent .parent-of .ensures) ∙ first .if3 .left) in
+    simp (no-node, no-sequence, no-parent, c .count-of .ensures)
 
 pub first-ok-spec : {M : Type 1} → statement M
 first-ok-spec =
     tie.close
-    (tie.spec node-of-requires returns sequence-of-requires returns-2 parent-of-requires returns-3)
+    (tie.spec node-of-requires returns sequence-of-requires returns-2 parent-of-requires returns-3 count-of-requires returns-4)

@@ -15,7 +15,7 @@ use Rattle.epochs.proofs.is_listed.Tie as tie
 
 abbrev Inv-loop : tie.InvT-loop
 Inv-loop table n author k₀ k =
-    let e = entryBy author 0 in
+    let e = entryBy author 0 0 in
     (k ≤ n) × (listed e (drop k (take n (entriesOf table))) ≡ listed e (take n (entriesOf table)))
 
 abbrev μ-loop : tie.MeasureT-loop
@@ -35,7 +35,7 @@ returns c =
     let asked : tie.After-pair-is Inv-loop μ-loop = search needs in
     let t = entriesOf (now (start .args .table)) in
     let few : start .args .n ≤ length t = omega (arith, length-entries (now (start .args .table))) in
-    let e = entryBy (start .args .author) 0 in
+    let e = entryBy (start .args .author) 0 0 in
     let found = sym (c .if1 .taken) ∙ asked .pair-is .ensures in
     listed-turn e t (start .args .n) (at .loop .k) (turn .loop-test .taken) few found ∙ at .loop .inv .1
 
@@ -53,7 +53,7 @@ loop-again c =
     let asked : tie.After-pair-is Inv-loop μ-loop = search needs in
     let t = entriesOf (now (start .args .table)) in
     let few : start .args .n ≤ length t = omega (arith, length-entries (now (start .args .table))) in
-    let e = entryBy (start .args .author) 0 in
+    let e = entryBy (start .args .author) 0 0 in
     let other = sym (c .if1 .left) ∙ asked .pair-is .ensures in
     (omega arith, listed-turn e t (start .args .n) (at .loop .k) (turn .loop-test .taken) few other ∙ at .loop .inv .1)
 
@@ -61,7 +61,7 @@ returns-2 : tie.Need-returns-2 Inv-loop μ-loop
 returns-2 c =
     let start : tie.Start Inv-loop μ-loop = search needs in
     let at : tie.At-loop Inv-loop μ-loop = search needs in
-    let end = listed-end (entryBy (start .args .author) 0) (entriesOf (now (start .args .table))) (start .args .n) (at .loop .k) in
+    let end = listed-end (entryBy (start .args .author) 0 0) (entriesOf (now (start .args .table))) (start .args .n) (at .loop .k) in
     end (c .loop-test .left) ∙ at .loop .inv .1
 
 pub is-listed-spec : {M : Type 1} → statement M

@@ -1,40 +1,50 @@
 -- `epochs::is_new` meets its contract. Assumes nothing.
 use mathlib.Core.Path.{sym, ap, _∙_}
 use mathlib.Core.Bool.{not}
-use Prim.Native.Nat.{_<_, _≤_}
+use Prim.Native.Nat.{ℕ, _<_, _≤_}
 use native.Mathlib.Omega.{arith}
 use denote.Ref.{now}
-use lib.ListN.{length, take}
+use lib.ListN.{length, take, getD}
 use borrow.Author.Needs.{needs}
 use Rattle.names.specs.declared.Author.{Author}
 use Rattle.epoch_tree.specs.Tables.{entryAt, entriesOf}
 use Rattle.epoch_tree.proofs.TableBytes.{length-entries}
-use Rattle.epochs.specs.Pairs.{pairNumber}
+use Rattle.epochs.specs.Pairs.{groupOf}
 use Rattle.epochs.specs.Calls.{entryBy}
 use Rattle.epochs.proofs.LoopTurns.{listed-pair, new-pair}
 use Rattle.epochs.proofs.is_new.Statement.{statement}
 use Rattle.epochs.proofs.is_new.Tie as tie
-
-pair-of-requires : tie.Need-pair-of-requires
-pair-of-requires c κs = search needs
-
-returns : tie.Need-returns
-returns c =
-    let pair : tie.After-pair-of = search needs in
-    let start : tie.Start = search needs in
-    let t = entriesOf (now (start .args .table)) in
-    let i = start .args .i in
-    let n = length-entries (now (start .args .table)) in
-    let p = pair .pair-of .ensures in
-    let inside : i ≤ length t = omega arith in
-    let over : start .args .top < pairNumber (entryAt t i) = omega arith in
-    ap not (sym (new-pair t i (start .args .top) (start .pre .1) (entryAt t i) inside over))
 
 node-of-requires : tie.Need-node-of-requires
 node-of-requires c κs = search needs
 
 sequence-of-requires : tie.Need-sequence-of-requires
 sequence-of-requires c κs = search needs
+
+group-of-requires : tie.Need-group-of-requires
+group-of-requires c κs = search needs
+
+mul-if1 : tie.Need-mul-if1
+mul-if1 c = search needs
+
+shared-slice-read-if1 : tie.Need-shared-slice-read-if1
+shared-slice-read-if1 c = search needs
+
+returns : tie.Need-returns
+returns c =
+    let group : tie.After-group-of = search needs in
+    let sequence : tie.After-sequence-of = search needs in
+    let node : tie.After-node-of = search needs in
+    let start : tie.Start = search needs in
+    let t = entriesOf (now (start .args .table)) in
+    let tops = now (start .args .tops) in
+    let i = start .args .i in
+    let n = length-entries (now (start .args .table)) in
+    let q = sequence .sequence-of .ensures in
+    let inside : i ≤ length t = omega arith in
+    let there = ap (λ (g : ℕ). getD tops g 0) (group .group-of .ensures .0 ∙ ap groupOf (node .node-of .ensures)) in
+    let over : getD tops (groupOf (entryAt t i .node)) 0 < entryAt t i .sequence = omega arith in
+    ap not (sym (new-pair t i tops (start .pre .2) (entryAt t i) inside over))
 
 is-listed-requires : tie.Need-is-listed-requires
 is-listed-requires c κs = search needs
@@ -47,7 +57,7 @@ returns-2 c =
     let start : tie.Start = search needs in
     let t = entriesOf (now (start .args .table)) in
     let pair : Author = record { node = node .node-of .result; sequence = sequence .sequence-of .result } in
-    let same = listed-pair (entryBy pair 0) (entryAt t (start .args .i)) (take (start .args .i) t) (node .node-of .ensures) (sequence .sequence-of .ensures) in
+    let same = listed-pair (entryBy pair 0 0) (entryAt t (start .args .i)) (take (start .args .i) t) (node .node-of .ensures) (sequence .sequence-of .ensures) in
     ap not (sym (c .if2 .taken) ∙ among .is-listed .ensures ∙ same)
 
 returns-3 : tie.Need-returns-3
@@ -58,17 +68,19 @@ returns-3 c =
     let start : tie.Start = search needs in
     let t = entriesOf (now (start .args .table)) in
     let pair : Author = record { node = node .node-of .result; sequence = sequence .sequence-of .result } in
-    let same = listed-pair (entryBy pair 0) (entryAt t (start .args .i)) (take (start .args .i) t) (node .node-of .ensures) (sequence .sequence-of .ensures) in
+    let same = listed-pair (entryBy pair 0 0) (entryAt t (start .args .i)) (take (start .args .i) t) (node .node-of .ensures) (sequence .sequence-of .ensures) in
     ap not (sym (c .if2 .left) ∙ among .is-listed .ensures ∙ same)
 
 pub is-new-spec : {M : Type 1} → statement M
 is-new-spec =
     tie.close
     (tie.spec
-    pair-of-requires
-    returns
     node-of-requires
     sequence-of-requires
+    group-of-requires
+    mul-if1
+    shared-slice-read-if1
+    returns
     is-listed-requires
     returns-2
     returns-3)

@@ -1,49 +1,43 @@
 -- `epochs::pair_is` meets its contract. Assumes nothing.
-use mathlib.Core.Path.{_≡_, refl, sym, ap, _∙_}
-use Prim.Native.Nat.{ℕ}
-use mathlib.Core.Bool.{Bool, true, false, _&&_}
+use mathlib.Core.Path.{ap, _∙_}
+use Prim.Native.Nat.{_<_}
+use native.Mathlib.Omega.{arith}
 use denote.Ref.{now}
 use lib.Dec.{eqb}
-use borrow.Author.Tests.{eq-eqb, ne-eqb}
-use Rattle.epoch_tree.specs.Tables.{entryAt, entriesOf}
 use borrow.Author.Needs.{needs}
+use Rattle.epoch_tree.specs.Tables.{entryAt, entriesOf}
+use Rattle.epochs.specs.Pairs.{pairNumber}
+use Rattle.epochs.specs.Calls.{entryBy}
+use Rattle.epochs.proofs.EntryNumbers.{entry-fits, pair-equal}
 use Rattle.epochs.proofs.pair_is.Statement.{statement}
 use Rattle.epochs.proofs.pair_is.Tie as tie
 
--- the second of two tests decides
-second-fails : (a b : Bool) → b ≡ false → false ≡ a && b
-second-fails true b e = sym e
-second-fails false b e = refl
+cast-pair : tie.Need-cast-pair
+cast-pair c = search needs
 
-second-holds : (a b : Bool) → b ≡ true → a ≡ a && b
-second-holds true b e = sym e
-second-holds false b e = refl
+mul-pair : tie.Need-mul-pair
+mul-pair c = search needs
 
-sequence-of-requires : tie.Need-sequence-of-requires
-sequence-of-requires c κs = search needs
+cast-pair-2 : tie.Need-cast-pair-2
+cast-pair-2 c = search needs
+
+add-pair : tie.Need-add-pair
+add-pair c = search needs
+
+pair-of-requires : tie.Need-pair-of-requires
+pair-of-requires c κs = search needs
 
 returns : tie.Need-returns
 returns c =
-    let sequence : tie.After-sequence-of = search needs in
+    let known : tie.After-struct-known2 = search needs in
+    let bytes : tie.After-shared-slice-known = search needs in
     let start : tie.Start = search needs in
-    let a = start .args .author in
-    let e = entryAt (entriesOf (now (start .args .table))) (start .args .k) in
-    let differ = ne-eqb (a .sequence) (e .sequence) (λ q. c .if1 .taken (q ∙ sym (sequence .sequence-of .ensures))) in
-    second-fails (eqb (a .node) (e .node)) (eqb (a .sequence) (e .sequence)) differ
-
-node-of-requires : tie.Need-node-of-requires
-node-of-requires c κs = search needs
-
-returns-2 : tie.Need-returns-2
-returns-2 c =
-    let node : tie.After-node-of = search needs in
-    let same : tie.Else1 = search needs in
-    let sequence : tie.After-sequence-of = search needs in
-    let start : tie.Start = search needs in
-    let a = start .args .author in
-    let e = entryAt (entriesOf (now (start .args .table))) (start .args .k) in
-    let one = eq-eqb (a .sequence) (e .sequence) (same .if1 .left ∙ sequence .sequence-of .ensures) in
-    ap (eqb (a .node)) (node .node-of .ensures) ∙ second-holds (eqb (a .node) (e .node)) (eqb (a .sequence) (e .sequence)) one
+    let s = now (start .args .table) in
+    let a = entryBy (start .args .author) 0 0 in
+    let fits = entry-fits s (start .args .k) (λ i. bytes .shared-slice-known .given i .fits) (start .pre) in
+    let bits : start .args .author .sequence < 4294967296 = omega arith in
+    ap (eqb (pairNumber a)) (c .pair-of .ensures) ∙ pair-equal a (entryAt (entriesOf s) (start .args .k)) bits (fits .sequence)
 
 pub pair-is-spec : {M : Type 1} → statement M
-pair-is-spec = tie.close (tie.spec sequence-of-requires returns node-of-requires returns-2)
+pair-is-spec =
+    tie.close (tie.spec cast-pair mul-pair cast-pair-2 add-pair pair-of-requires returns)

@@ -1,30 +1,34 @@
 -- `epochs::parent_of` meets its contract. Assumes nothing.
-use mathlib.Core.Path.{sym, ap, _∙_}
+use Prim.Native.Nat.{_<_}
+use native.Mathlib.Omega.{arith}
 use denote.Ref.{now}
-use Rattle.epoch_tree.specs.Tables.{Entry}
-use Rattle.epoch_tree.proofs.TableBytes.{entry-at}
 use borrow.Author.Needs.{needs}
+use Rattle.epoch_tree.specs.Tables.{entryAt, entriesOf}
+use Rattle.epochs.proofs.EntryNumbers.{entry-fits, parent-in}
 use Rattle.epochs.proofs.parent_of.Statement.{statement}
 use Rattle.epochs.proofs.parent_of.Tie as tie
 
-mul-read-u16 : tie.Need-mul-read-u16
-mul-read-u16 c = search needs
-
-add-read-u16 : tie.Need-add-read-u16
-add-read-u16 c = search needs
-
-read-u16-requires : tie.Need-read-u16-requires
-read-u16-requires c κs = search needs
+rest-of-requires : tie.Need-rest-of-requires
+rest-of-requires c κs = search needs
 
 cast-result : tie.Need-cast-result
-cast-result c = search needs
+cast-result c =
+    let start : tie.Start = search needs in
+    let bytes : tie.After-shared-slice-known = search needs in
+    let s = now (start .args .table) in
+    let e = entryAt (entriesOf s) (start .args .k) in
+    let fits = entry-fits s (start .args .k) (λ i. bytes .shared-slice-known .given i .fits) (start .pre) in
+    let q = parent-in e fits (c .rest-of .result) (c .rest-of .ensures) in
+    let b : e .parent < 65536 = fits .parent in
+    omega arith
 
 returns : tie.Need-returns
 returns c =
     let start : tie.Start = search needs in
-    let there = entry-at (now (start .args .table)) (start .args .k) (start .pre) in
-    c .read-u16 .ensures ∙ sym (ap (λ (e : Entry). e .parent) there)
+    let bytes : tie.After-shared-slice-known = search needs in
+    let s = now (start .args .table) in
+    let fits = entry-fits s (start .args .k) (λ i. bytes .shared-slice-known .given i .fits) (start .pre) in
+    parent-in (entryAt (entriesOf s) (start .args .k)) fits (c .rest-of .result) (c .rest-of .ensures)
 
 pub parent-of-spec : {M : Type 1} → statement M
-parent-of-spec =
-    tie.close (tie.spec mul-read-u16 add-read-u16 read-u16-requires cast-result returns)
+parent-of-spec = tie.close (tie.spec rest-of-requires cast-result returns)

@@ -1,26 +1,34 @@
 -- `epochs::sequence_of` meets its contract. Assumes nothing.
-use mathlib.Core.Path.{sym, ap, _∙_}
+use Prim.Native.Nat.{_<_}
+use native.Mathlib.Omega.{arith}
 use denote.Ref.{now}
-use Rattle.epoch_tree.specs.Tables.{Entry}
-use Rattle.epoch_tree.proofs.TableBytes.{entry-at}
 use borrow.Author.Needs.{needs}
+use Rattle.epoch_tree.specs.Tables.{entryAt, entriesOf}
+use Rattle.epochs.proofs.EntryNumbers.{entry-fits, sequence-in}
 use Rattle.epochs.proofs.sequence_of.Statement.{statement}
 use Rattle.epochs.proofs.sequence_of.Tie as tie
 
-mul-read-u32 : tie.Need-mul-read-u32
-mul-read-u32 c = search needs
+pair-of-requires : tie.Need-pair-of-requires
+pair-of-requires c κs = search needs
 
-add-read-u32 : tie.Need-add-read-u32
-add-read-u32 c = search needs
-
-read-u32-requires : tie.Need-read-u32-requires
-read-u32-requires c κs = search needs
+cast-result : tie.Need-cast-result
+cast-result c =
+    let start : tie.Start = search needs in
+    let bytes : tie.After-shared-slice-known = search needs in
+    let s = now (start .args .table) in
+    let e = entryAt (entriesOf s) (start .args .k) in
+    let fits = entry-fits s (start .args .k) (λ i. bytes .shared-slice-known .given i .fits) (start .pre) in
+    let q = sequence-in e fits (c .pair-of .result) (c .pair-of .ensures) in
+    let b : e .sequence < 4294967296 = fits .sequence in
+    omega arith
 
 returns : tie.Need-returns
 returns c =
     let start : tie.Start = search needs in
-    let there = entry-at (now (start .args .table)) (start .args .k) (start .pre) in
-    c .read-u32 .ensures ∙ sym (ap (λ (e : Entry). e .sequence) there)
+    let bytes : tie.After-shared-slice-known = search needs in
+    let s = now (start .args .table) in
+    let fits = entry-fits s (start .args .k) (λ i. bytes .shared-slice-known .given i .fits) (start .pre) in
+    sequence-in (entryAt (entriesOf s) (start .args .k)) fits (c .pair-of .result) (c .pair-of .ensures)
 
 pub sequence-of-spec : {M : Type 1} → statement M
-sequence-of-spec = tie.close (tie.spec mul-read-u32 add-read-u32 read-u32-requires returns)
+sequence-of-spec = tie.close (tie.spec pair-of-requires cast-result returns)

@@ -39,6 +39,12 @@ add-write-u32-3 c = search needs
 write-u32-requires-2 : tie.Need-write-u32-requires-2
 write-u32-requires-2 c κs = search needs
 
+add-write-u16 : tie.Need-add-write-u16
+add-write-u16 c = search needs
+
+write-u16-requires : tie.Need-write-u16-requires
+write-u16-requires c κs = search needs
+
 same-length : tie.Need-same-length
 same-length c = search needs
 
@@ -47,6 +53,7 @@ returns c =
     let start : tie.Start = search needs in
     let first : tie.After-write-u32 = search needs in
     let second : tie.After-write-u322 = search needs in
+    let third : tie.After-write-u16 = search needs in
     let o = now (start .args .out) in
     let p = start .args .p in
     let a = start .args .author in
@@ -55,7 +62,8 @@ returns c =
     let fits : p ≤ length o = omega arith in
     let one : first .write-u32 .last .0 ≡ put o p high = first .write-u32 .ensures ∙ ap (put o p) (pair (a .node) (a .sequence / 65536) (omega arith)) in
     let two = second .write-u322 .ensures ∙ ap (put (first .write-u32 .last .0) (p + 4)) (pair (a .sequence % 65536) (start .args .parent) (omega arith)) in
-    put-more o p fits high low one refl two
+    let words = put-more o p fits high low one refl two in
+    put-more o p fits (high ++ low) (bytes16 (start .args .count)) words refl (third .write-u16 .ensures)
 
 pub write-entry-spec : {M : Type 1} → statement M
 write-entry-spec =
@@ -70,5 +78,7 @@ write-entry-spec =
     cast-write-u32-2
     add-write-u32-3
     write-u32-requires-2
+    add-write-u16
+    write-u16-requires
     same-length
     returns)

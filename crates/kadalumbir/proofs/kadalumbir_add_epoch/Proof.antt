@@ -15,7 +15,7 @@ pack-requires : tie.Need-pack-requires
 pack-requires c κs =
     let after-add : tie.After-add = search needs in
     let start : tie.Start = search needs in
-    rw (after-add .add .ensures .0) (add-count (now (start .args .table)) (start .args .parent) (record { node = start .args .node; sequence = start .args .sequence }) (length (now (start .args .out))))
+    rw (after-add .add .ensures .0) (add-count (now (start .args .table)) (start .args .parent) (record { node = start .args .node; sequence = start .args .sequence }) (start .args .count) (length (now (start .args .out))))
 
 same-length : tie.Need-same-length
 same-length c = search needs
