@@ -39,8 +39,8 @@
  *   log     a page of 1 to 256 slots whose line numbers are all 0: the names that a rename makes short.
  *   table   1 to 32 entries of 10 bytes: node u16, sequence u32, parent's index u16, count u16. Entry 0 is all zero. Every
  *           other entry has node at least 1, a parent with a smaller index, a (node, sequence) that no other entry has, and
- *           a count of 1..256: the number of names in the log of that rename. A table of entries of 8 bytes, with no count, as
- *           tables were, is never one of these: it is a broken layout.
+ *           a count of 1..256: the number of names in the log of that rename. An old table, of entries of 8 bytes with no
+ *           count, is never one of these: it is a broken layout.
  *   message fields of tag u8, length u16, content, in this order: 1 kind (u8); 2 epoch and 3 author (each node u16,
  *           sequence u32; the first epoch is six zeros, an author's node is at least 1); 4 a name's tuples; for insert
  *           then 5 line number (u32). Insert and remove have one name, rename 1 to 256 rising ones.
@@ -109,7 +109,7 @@ uint64_t kadalumbir_check_page(const uint8_t *page, size_t page_len);
 /* Refuses 3. Stack: 140 bytes. */
 uint64_t kadalumbir_check_log(const uint8_t *log, size_t log_len);
 
-/* Refuses 13. Stack: 40 bytes. */
+/* Refuses 13. Stack: 70 bytes. */
 uint64_t kadalumbir_check_epochs(const uint8_t *table, size_t table_len);
 
 /* ---- lines: the count is that of the page's slots in `out` */
@@ -162,14 +162,14 @@ enum { KADALUMBIR_STAY = 0, KADALUMBIR_UP = 1, KADALUMBIR_DOWN = 2 };
 /* Sets the next step from entry `current` to the target, the greatest epoch, where all units go: stay there, up to the
  * parent (take that rename back), or down to a child (rename), and the index of the parent or child; the index is 0 for
  * stay. Following it comes to the target after at most 31 steps. The count is 0.
- * Refuses 13, 14. Stack: 400 bytes. */
+ * Refuses 13, 14. Stack: 410 bytes. */
 uint64_t kadalumbir_next_step(const uint8_t *table, size_t table_len, size_t current, uint8_t *step, uint32_t *index);
 
 /* Writes the table with one more entry, of (node, sequence) under entry `parent`. `count` is the number of names in the
  * rename's own log, 1..256: log_len / KADALUMBIR_SLOT_BYTES, or what kadalumbir_read_message counted in the rename's
  * message. It is the same on every unit; a unit that gave another number would choose another target, and end apart. The
  * count that comes back is that of the table's entries.
- * Refuses 13 (table), 14, 4, 13 (`count`), 17, 18, 8. Stack: 70 bytes. */
+ * Refuses 13 (table), 14, 4, 13 (`count`), 17, 18, 8. Stack: 120 bytes. */
 uint64_t kadalumbir_add_epoch(const uint8_t *table, size_t table_len, size_t parent, uint16_t node, uint32_t sequence,
                               uint16_t count, uint8_t *out, size_t out_len);
 

@@ -2,7 +2,7 @@
 use mathlib.Core.Path.{_≡_, refl, sym, ap, _∙_}
 use mathlib.Core.List.{List, [], _∷_, _++_}
 use mathlib.Core.Logic.{_⊎_, inl, inr}
-use mathlib.Core.Bool.{Bool, true, false}
+use mathlib.Core.Bool.{true, false}
 use Prim.Native.Nat.{ℕ, zero, suc, _<_, _≤_}
 use native.Mathlib.Omega.{arith}
 use lib.ListN.{length}
@@ -11,6 +11,7 @@ use Rattle.names.specs.declared.Order.the-variants.{Less}
 use Rattle.names.specs.Ordering.{then}
 use Rattle.names.proofs.Laws.{ℕ-less, ℕ-same}
 use Rattle.numbers.specs.Bytes.{Bytes, at16}
+use Rattle.numbers.proofs.Bools.{never}
 use Rattle.epoch_tree.specs.Tables.{Entry, entryAt, entriesOf, isTable, keepsTable}
 use Rattle.epoch_tree.specs.Tree.{parentOf, path, comparePairs, compareKeys, comparePaths, compareEpochs, Smaller}
 use Rattle.epoch_tree.specs.Counts.{compareByPairs, EqualCounts, Laws}
@@ -89,11 +90,7 @@ no-old s o h = elim o [
 ]
 
 old-entries : (s : Bytes) → (length s ≡ 8) ⊎ (1 ≤ at16 s 8) → keepsTable s ≡ false
-old-entries s o = go (keepsTable s) (no-old s o)
-  where
-    go : (b : Bool) → (b ≡ true → ⊥) → b ≡ false
-    go true f = absurd (f refl)
-    go false f = refl
+old-entries s o = never (keepsTable s) (no-old s o)
 
 pub laws : Laws
 laws = record {

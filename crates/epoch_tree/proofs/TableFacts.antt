@@ -10,7 +10,7 @@ use borrow.Author.Tests.{ltb-true, leb-true, eqb-true, not-true, eq-eqb, lt-ltb,
 use lib.Dec.{eqb, leb, ltb}
 use lib.ListN.{length, take, drop, getD, length-drop, length-take, List·getD-eq-default}
 use lib.Seq.{getD-take, getD-drop}
-use Rattle.numbers.proofs.Bools.{and-0, and-1, yes-no}
+use Rattle.numbers.proofs.Bools.{and-0, and-1, or-0, or-1, yes-no}
 use Rattle.epoch_tree.specs.Tables.{Entry, maxEntries, zeroEntry, entryAt, isFirst, isCount, samePair, listed, keepsEntry, keepsFrom, isTable}
 use Rattle.epoch_tree.specs.Tree.{parentOf}
 
@@ -36,14 +36,6 @@ parent-few t h (suc i) l =
     let p : parentOf t (suc i) ≤ i = h .parent i in
     let k : length t ≤ maxEntries = h .few in
     omega arith
-
-or-0 : (a b : Bool) → a || b ≡ false → a ≡ false
-or-0 true b e = e
-or-0 false b e = refl
-
-or-1 : (a b : Bool) → a || b ≡ false → b ≡ false
-or-1 true b e = yes-no refl e
-or-1 false b e = e
 
 -- no entry of the list has the pair
 pub not-listed : (e : Entry) (l : List Entry) (i : ℕ) → listed e l ≡ false → i < length l → samePair e (getD l i zeroEntry) ≡ false

@@ -1,7 +1,7 @@
 -- An input that is read in two parts, a whole page and the rest, is listed as the whole input is checked, as
 -- specs/Laws.antt states it. Assumes nothing.
 use mathlib.Core.Path.{_≡_, refl}
-use mathlib.Core.Bool.{Bool, true, false}
+use mathlib.Core.Bool.{false}
 use Prim.Native.Nat.{_<_}
 use native.Mathlib.Decide.{decLe}
 use native.Mathlib.Omega.{arith}
@@ -10,16 +10,13 @@ use lib.ListN.{length, take, drop, length-drop, drop-of-length-le}
 use lib.Seq.{take-all}
 use lib.Dec.{eqb}
 use Rattle.numbers.specs.Bytes.{Bytes}
+use Rattle.numbers.proofs.Bools.{never}
 use Rattle.answers.specs.declared.Answer.the-variants.{Refused}
 use Rattle.answers.specs.declared.Refusal.the-variants.{BadLayout}
 use Rattle.pages.specs.Pages.{keepsLayout, checkPage}
 use Rattle.pages.proofs.RoundTrip.{laid}
 use Rattle.listing_text.specs.Listing.{listing}
 use Rattle.listing_text.specs.Laws.{pageSize, WholeLaw}
-
-never : (b : Bool) → (b ≡ true → ⊥) → b ≡ false
-never true f = absurd (f refl)
-never false f = refl
 
 too-long : (s : Bytes) → pageSize < length s → checkPage s ≡ Refused BadLayout
 unfolding checkPage

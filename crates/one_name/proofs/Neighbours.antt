@@ -14,7 +14,7 @@ use Rattle.names.specs.Ordering.{Row, _<ⁿ_, Rising}
 use Rattle.names.specs.Names.{m, marker}
 use Rattle.names.proofs.Validity.{Ordinary, Valid, valid-ends}
 use Rattle.numbers.specs.Lists.{every}
-use Rattle.numbers.proofs.Bools.{yes-no}
+use Rattle.numbers.proofs.Bools.{or-0, or-1, yes-no}
 use Rattle.numbers.proofs.Every.{every-each}
 use Rattle.name_renames.specs.Renaming.{takeBack}
 use Rattle.name_renames.proofs.Lists.{at}
@@ -44,14 +44,6 @@ clear-at x n f = elim (decLt n (length x)) [
 own-clear : (a b : Bool) → a || not b ≡ true → b ≡ true → a ≡ true
 own-clear true b e f = refl
 own-clear false b e f = yes-no f (not-true b e)
-
-or-0 : (a b : Bool) → a || b ≡ false → a ≡ false
-or-0 false b e = refl
-or-0 true b e = yes-no refl e
-
-or-1 : (a b : Bool) → a || b ≡ false → b ≡ false
-or-1 false b e = e
-or-1 true b e = yes-no refl e
 
 module _ (log : List Row) (vs : (k : ℕ) → k < length log → Valid (at log k)) where
   -- the stem of a name: the log's names and the name are valid
