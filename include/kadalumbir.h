@@ -109,7 +109,7 @@ uint64_t kadalumbir_check_page(const uint8_t *page, size_t page_len);
 /* Refuses 3. Stack: 140 bytes. */
 uint64_t kadalumbir_check_log(const uint8_t *log, size_t log_len);
 
-/* Refuses 13. Stack: 70 bytes. */
+/* Refuses 13. Stack: 50 bytes. */
 uint64_t kadalumbir_check_epochs(const uint8_t *table, size_t table_len);
 
 /* ---- lines: the count is that of the page's slots in `out` */
@@ -169,7 +169,7 @@ uint64_t kadalumbir_next_step(const uint8_t *table, size_t table_len, size_t cur
  * rename's own log, 1..256: log_len / KADALUMBIR_SLOT_BYTES, or what kadalumbir_read_message counted in the rename's
  * message. It is the same on every unit; a unit that gave another number would choose another target, and end apart. The
  * count that comes back is that of the table's entries.
- * Refuses 13 (table), 14, 4, 13 (`count`), 17, 18, 8. Stack: 120 bytes. */
+ * Refuses 13 (table), 14, 4, 13 (`count`), 17, 18, 8. Stack: 100 bytes. */
 uint64_t kadalumbir_add_epoch(const uint8_t *table, size_t table_len, size_t parent, uint16_t node, uint32_t sequence,
                               uint16_t count, uint8_t *out, size_t out_len);
 

@@ -54,7 +54,7 @@ pub pair-same : (e f : Entry) → e .node ≡ f .node → e .sequence ≡ f .seq
 pair-same e f a b = λ i. eq-eqb (e .node) (f .node) a i && eq-eqb (e .sequence) (f .sequence) b i
 
 -- entry 0 is zero
-first-zero : (e : Entry) → isFirst e ≡ true → e ≡ zeroEntry
+pub first-zero : (e : Entry) → isFirst e ≡ true → e ≡ zeroEntry
 first-zero e h =
     let b = and-0 (eqb (e .node) 0 && eqb (e .sequence) 0 && eqb (e .parent) 0) (eqb (e .count) 0) h in
     let a = and-0 (eqb (e .node) 0 && eqb (e .sequence) 0) (eqb (e .parent) 0) b in

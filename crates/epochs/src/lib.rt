@@ -152,27 +152,18 @@ fn group_of(node: u16) -> usize
     node as usize % GROUPS
 }
 
-// Entry k is one more of which the greatest sequences are kept.
-fn keep(tops: &mut [u32], table: &[u8], k: usize)
-    requires { ⌜ (k < length (now table) / entrySize) × (length (now tops) ≡ groups) × Under (entriesOf (now table)) k (now tops) ⌝ }
-    ensures { λ _. ⌜ (length (now (tops .exit)) ≡ groups) × Under (entriesOf (now (table .entry))) (k + 1) (now (tops .exit)) ⌝ }
-{
-    let group = group_of(node_of(table, k));
-    let sequence = sequence_of(table, k);
-    if tops[group] < sequence {
-        tops[group] = sequence;
-    }
-}
-
-// No entry before entry i has its (node, sequence): a sequence above the greatest of its group is none of theirs, and another is held against
-// each.
-fn is_new(table: &[u8], i: usize, tops: &[u32]) -> bool
+// No entry before entry i has its (node, sequence): a sequence above the greatest of its group is none of theirs, and is kept; another is held
+// against each.
+fn is_new(table: &[u8], i: usize, tops: &mut [u32]) -> bool
     requires { ⌜ (i < length (now table) / entrySize) × (length (now tops) ≡ groups) × Under (entriesOf (now table)) i (now tops) ⌝ }
     ensures { λ r. ⌜ r ≡ not (listed (entryAt (entriesOf (now (table .entry))) i) (take i (entriesOf (now (table .entry))))) ⌝ }
+    ensures { λ _. ⌜ (length (now (tops .exit)) ≡ groups) × Under (entriesOf (now (table .entry))) (i + 1) (now (tops .exit)) ⌝ }
 {
     let node = node_of(table, i);
     let sequence = sequence_of(table, i);
-    if tops[group_of(node)] < sequence {
+    let group = group_of(node);
+    if tops[group] < sequence {
+        tops[group] = sequence;
         return true;
     }
     if is_listed(table, i, Author { node, sequence }) {
@@ -182,10 +173,11 @@ fn is_new(table: &[u8], i: usize, tops: &[u32]) -> bool
 }
 
 // "Every other entry has node at least 1, a parent index below its own index, and a (node, sequence) that no other entry has"; "a count
-// outside 1..256 in an entry other than entry 0 is 13". The greatest sequences before it are `tops`.
-fn entry_ok(table: &[u8], i: usize, tops: &[u32]) -> bool
+// outside 1..256 in an entry other than entry 0 is 13". The greatest sequences before it are `tops`, which then has its own too.
+fn entry_ok(table: &[u8], i: usize, tops: &mut [u32]) -> bool
     requires { ⌜ (i < length (now table) / entrySize) × (length (now tops) ≡ groups) × Under (entriesOf (now table)) i (now tops) ⌝ }
     ensures { λ r. ⌜ r ≡ keepsEntry (entriesOf (now (table .entry))) i (entryAt (entriesOf (now (table .entry))) i) ⌝ }
+    ensures { λ r. ⌜ (r ≡ true → (length (now (tops .exit)) ≡ groups) × Under (entriesOf (now (table .entry))) (i + 1) (now (tops .exit))) ⌝ }
 {
     if node_of(table, i) < 1 {
         return false;
@@ -199,20 +191,18 @@ fn entry_ok(table: &[u8], i: usize, tops: &[u32]) -> bool
     is_new(table, i, tops)
 }
 
-// Every entry but entry 0.
+// Every entry but entry 0, which is all zero.
 fn others_ok(table: &[u8]) -> bool
-    requires { ⌜ 0 < length (now table) / entrySize ⌝ }
+    requires { ⌜ (0 < length (now table) / entrySize) × (isFirst (entryAt (entriesOf (now table)) 0) ≡ true) ⌝ }
     ensures { λ r. ⌜ r ≡ keepsFrom (entriesOf (now (table .entry))) 1 (drop 1 (entriesOf (now (table .entry)))) ⌝ }
 {
     let n = table.len() / ENTRY;
     let mut tops = [0u32; GROUPS];
-    keep(&mut tops, table, 0);
     let mut i: usize = 1;
     while i < n {
-        if !entry_ok(table, i, &tops) {
+        if !entry_ok(table, i, &mut tops) {
             return false;
         }
-        keep(&mut tops, table, i);
         i += 1;
     }
     true

@@ -1,9 +1,10 @@
 -- `epochs::entry_ok` meets its contract. Assumes nothing.
-use mathlib.Core.Path.{sym, ap, _∙_}
+use mathlib.Core.Path.{refl, sym, ap, _∙_}
 use Prim.Native.Nat.{_<_, _≤_}
 use native.Mathlib.Omega.{arith}
 use denote.Ref.{now}
 use borrow.Author.Tests.{le-leb, lt-leb, lt-ltb, le-ltb, not-true, not-false}
+use Rattle.numbers.proofs.Bools.{yes-no}
 use Rattle.epoch_tree.specs.Tables.{entryAt, entriesOf, isCount}
 use borrow.Author.Needs.{needs}
 use Rattle.epochs.proofs.entry_ok.Statement.{statement}
@@ -19,7 +20,7 @@ returns c =
     let e = entryAt (entriesOf (now (start .args .table))) (start .args .i) in
     let n = node .node-of .ensures in
     let none : e .node < 1 = omega arith in
-    simp (lt-leb 1 (e .node) none)
+    (simp (lt-leb 1 (e .node) none), λ t. yes-no t refl)
 
 parent-of-requires : tie.Need-parent-of-requires
 parent-of-requires c κs = search needs
@@ -34,7 +35,7 @@ returns-2 c =
     let p = parent .parent-of .ensures in
     let has-node : 1 ≤ e .node = omega arith in
     let not-below : start .args .i ≤ e .parent = omega arith in
-    simp (le-leb 1 (e .node) has-node, le-ltb (e .parent) (start .args .i) not-below)
+    (simp (le-leb 1 (e .node) has-node, le-ltb (e .parent) (start .args .i) not-below), λ t. yes-no t refl)
 
 count-of-requires : tie.Need-count-of-requires
 count-of-requires c κs = search needs
@@ -55,10 +56,13 @@ returns-3 c =
     let has-node : 1 ≤ e .node = omega arith in
     let below : e .parent < start .args .i = omega arith in
     let none = ap isCount (sym (count .count-of .ensures)) ∙ sym (asked .count-ok .ensures) ∙ not-true (asked .count-ok .result) (c .if3 .taken) in
-    simp (le-leb 1 (e .node) has-node, lt-ltb (e .parent) (start .args .i) below, none)
+    (simp (le-leb 1 (e .node) has-node, lt-ltb (e .parent) (start .args .i) below, none), λ t. yes-no t refl)
 
 is-new-requires : tie.Need-is-new-requires
 is-new-requires c κs = search needs
+
+same-length : tie.Need-same-length
+same-length c = search needs
 
 returns-4 : tie.Need-returns-4
 returns-4 c =
@@ -74,7 +78,10 @@ returns-4 c =
     let has-node : 1 ≤ e .node = omega arith in
     let below : e .parent < start .args .i = omega arith in
     let counted = ap isCount (sym (count .count-of .ensures)) ∙ sym (asked .count-ok .ensures) ∙ not-false (asked .count-ok .result) (kept .if3 .left) in
-    simp (le-leb 1 (e .node) has-node, lt-ltb (e .parent) (start .args .i) below, counted) (c .is-new .ensures)
+    let new : tie.After-is-new = search needs in (
+      simp (le-leb 1 (e .node) has-node, lt-ltb (e .parent) (start .args .i) below, counted) (new .is-new .ensures .0),
+      λ t. new .is-new .ensures .1,
+    )
 
 pub entry-ok-spec : {M : Type 1} → statement M
 entry-ok-spec =
@@ -88,4 +95,5 @@ entry-ok-spec =
     count-ok-requires
     returns-3
     is-new-requires
+    same-length
     returns-4)

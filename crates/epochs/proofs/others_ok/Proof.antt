@@ -1,12 +1,13 @@
 -- `epochs::others_ok` meets its contract. Assumes nothing.
-use mathlib.Core.Path.{_≡_, refl, sym, _∙_}
+use mathlib.Core.Path.{_≡_, refl, sym, ap, _∙_}
 use Prim.Native.Nat.{ℕ, _+_, _-_, _/_, _<_, _≤_}
 use native.Mathlib.Omega.{arith}
 use denote.Ref.{now}
 use borrow.Author.Tests.{not-true, not-false}
 use borrow.Author.Needs.{needs}
 use lib.ListN.{length, drop}
-use Rattle.epoch_tree.specs.Tables.{entrySize, entriesOf, keepsFrom}
+use Rattle.epoch_tree.specs.Tables.{Entry, entrySize, entryAt, entriesOf, keepsFrom}
+use Rattle.epoch_tree.proofs.TableFacts.{first-zero}
 use Rattle.epoch_tree.proofs.TableBytes.{length-entries}
 use Rattle.epochs.specs.Pairs.{groups, Under}
 use Rattle.epochs.proofs.LoopTurns.{keeps-turn, keeps-end}
@@ -21,16 +22,12 @@ Inv-loop table n tops₀ i₀ tops i =
 abbrev μ-loop : tie.MeasureT-loop
 μ-loop table n tops₀ i₀ tops i = n - i
 
-slice-aggregate-keep : tie.Need-slice-aggregate-keep Inv-loop μ-loop
-slice-aggregate-keep c = search needs
-
-keep-requires : tie.Need-keep-requires Inv-loop μ-loop
-keep-requires c κs = (omega arith, refl, λ k l. absurd (omega arith))
-
 loop-holds : tie.Need-loop-holds Inv-loop μ-loop
 loop-holds c =
-    let first : tie.After-keep Inv-loop μ-loop = search needs in
-    (refl, omega arith, omega arith, refl, first .keep .ensures .0, first .keep .ensures .1)
+    let start : tie.Start Inv-loop μ-loop = search needs in
+    let t = entriesOf (now (start .args .table)) in
+    let zero : entryAt t 0 .sequence ≡ 0 = ap (λ (e : Entry). e .sequence) (first-zero (entryAt t 0) (start .pre .1)) in
+    (refl, omega arith, omega arith, refl, refl, λ k l. let e : k ≡ 0 = omega arith in rw e (omega arith))
 
 slice-aggregate-entry-ok : tie.Need-slice-aggregate-entry-ok Inv-loop μ-loop
 slice-aggregate-entry-ok c = search needs
@@ -47,16 +44,8 @@ returns c =
     let start : tie.Start Inv-loop μ-loop = search needs in
     let n = length-entries (now (start .args .table)) in
     let t = entriesOf (now (start .args .table)) in
-    let bad = sym (not-true (asked .entry-ok .result) (c .if1 .taken)) ∙ asked .entry-ok .ensures in
+    let bad = sym (not-true (asked .entry-ok .result) (c .if1 .taken)) ∙ asked .entry-ok .ensures .0 in
     keeps-turn t (at .loop .i) (omega arith) bad ∙ at .loop .inv .3
-
-slice-aggregate-keep-2 : tie.Need-slice-aggregate-keep-2 Inv-loop μ-loop
-slice-aggregate-keep-2 c = search needs
-
-keep-requires-2 : tie.Need-keep-requires-2 Inv-loop μ-loop
-keep-requires-2 c κs =
-    let at : tie.At-loop Inv-loop μ-loop = search needs in
-    (omega arith, at .loop .inv .4, at .loop .inv .5)
 
 add-i : tie.Need-add-i Inv-loop μ-loop
 add-i c = omega arith
@@ -66,7 +55,6 @@ loop-less c = omega arith
 
 loop-again : tie.Need-loop-again Inv-loop μ-loop
 loop-again c =
-    let kept : tie.After-keep2 Inv-loop μ-loop = search needs in
     let passed : tie.Else1 Inv-loop μ-loop = search needs in
     let asked : tie.After-entry-ok Inv-loop μ-loop = search needs in
     let at : tie.At-loop Inv-loop μ-loop = search needs in
@@ -74,13 +62,14 @@ loop-again c =
     let n = length-entries (now (start .args .table)) in
     let t = entriesOf (now (start .args .table)) in
     let i = at .loop .i in
-    let good = sym (not-false (asked .entry-ok .result) (passed .if1 .left)) ∙ asked .entry-ok .ensures in (
+    let ok = not-false (asked .entry-ok .result) (passed .if1 .left) in
+    let kept = asked .entry-ok .ensures .1 ok in (
       at .loop .inv .0,
       omega arith,
       omega arith,
-      keeps-turn t i (omega arith) good ∙ at .loop .inv .3,
-      kept .keep2 .ensures .0,
-      kept .keep2 .ensures .1,
+      keeps-turn t i (omega arith) (sym ok ∙ asked .entry-ok .ensures .0) ∙ at .loop .inv .3,
+      kept .0,
+      kept .1,
     )
 
 returns-2 : tie.Need-returns-2 Inv-loop μ-loop
@@ -96,14 +85,10 @@ others-ok-spec =
     (tie.spec
     Inv-loop
     μ-loop
-    slice-aggregate-keep
-    keep-requires
     loop-holds
     slice-aggregate-entry-ok
     entry-ok-requires
     returns
-    slice-aggregate-keep-2
-    keep-requires-2
     add-i
     loop-less
     loop-again

@@ -52,7 +52,10 @@ returns-4 c =
     simp (tests s, whole, le-leb 1 (length s / entrySize) some, le-leb (length s / entrySize) maxEntries few, bad)
 
 others-ok-requires : tie.Need-others-ok-requires
-others-ok-requires c κs = omega arith
+others-ok-requires c κs =
+    let first : tie.After-first-ok = search needs in
+    let kept : tie.Else4 = search needs in
+    (omega arith, sym (first .first-ok .ensures) ∙ not-false (first .first-ok .result) (kept .if4 .left))
 
 returns-5 : tie.Need-returns-5
 returns-5 c =
