@@ -68,7 +68,7 @@ entryAt t i = getD t i zeroEntry
 abbrev pub isFirst : Entry → Bool
 isFirst e = eqb (e .node) 0 && eqb (e .sequence) 0 && eqb (e .parent) 0 && eqb (e .count) 0
 
--- "the number of names in its rename's log (u16, 1..256)": a log has as many names as a page has slots, and at least one
+-- "the number of names in its rename's log (u16, 1..256)": a log has at least one name, and at most as many as a page has slots
 abbrev pub isCount : ℕ → Bool
 isCount n = within 1 maxSlots n
 

@@ -276,7 +276,7 @@ fn parent_in(tree: &[u8; TABLE], size: usize, k: usize) -> usize
     byte_at(tree, ENTRY * k + PARENT + 1)
 }
 
-// The same of the array's.
+// The key of entry i is below that of entry j, in the array.
 fn key_below(tree: &[u8; TABLE], size: usize, i: usize, j: usize) -> bool
     requires { ⌜ (i < length (take size (now tree)) / entrySize) × (j < length (take size (now tree)) / entrySize) ⌝ }
     ensures { λ r. ⌜ r ≡ isLess (compareKeys (entryAt (entriesOf (take size (now (tree .entry)))) i) (entryAt (entriesOf (take size (now (tree .entry)))) j)) ⌝ }

@@ -60,12 +60,15 @@ pub record Alike (s : Bytes) (room n room' n' : ℕ) : Type 0 where
 -- A unit hears of the rename: it reads the message, takes the entry of the message's epoch in its own table as the parent, and adds the
 -- author's epoch with the count that it read.
 pub record Hears (s table second : Bytes) : Type 0 where
+  -- it reads n names into an output of so many bytes
   pub room : ℕ
   pub n : ℕ
   pub reads : Reads s room n
+  -- the parent's entry has the (node, sequence) of the message's epoch
   pub parent : ℕ
   pub node : entryAt (entriesOf table) parent .node ≡ epochRead s room .node
   pub sequence : entryAt (entriesOf table) parent .sequence ≡ epochRead s room .sequence
+  -- and adding, into an output of so many bytes, gives a second table, of m entries
   pub out : ℕ
   pub m : ℕ
   pub accepted : addOutcome table parent (authorRead s room) n out .answer ≡ Accepted m
