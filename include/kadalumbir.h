@@ -115,12 +115,12 @@ uint64_t kadalumbir_check_epochs(const uint8_t *table, size_t table_len);
 /* ---- lines: the count is that of the page's slots in `out` */
 
 /* Writes the page with the given slot, which is exactly one slot long, at its rising place.
- * Refuses 1 (page), 1 (slot), 2, 9, 11, 8. Stack: 180 bytes. */
+ * Refuses 1 (page), 1 (slot), 2, 9, 11, 8. Stack: 210 bytes. */
 uint64_t kadalumbir_insert(const uint8_t *page, size_t page_len, const uint8_t *slot, size_t slot_len, uint8_t *out,
                            size_t out_len);
 
 /* Writes the page without the slot that has the given slot's name; the given line number is ignored.
- * Refuses 1 (page), 1 (slot), 2, 10, 8. Stack: 210 bytes. */
+ * Refuses 1 (page), 1 (slot), 2, 10, 8. Stack: 220 bytes. */
 uint64_t kadalumbir_remove(const uint8_t *page, size_t page_len, const uint8_t *slot, size_t slot_len, uint8_t *out,
                            size_t out_len);
 

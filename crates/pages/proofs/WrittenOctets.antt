@@ -1,62 +1,23 @@
 -- What is written is bytes: `written-octets`, of any slots one after the other. So what holds of a page whose elements are bytes
 -- holds of every page that an accepted call has written. Assumes nothing.
 use mathlib.Core.Path.{_≡_}
-use mathlib.Core.List.{List, [], _∷_, _++_, flatten}
+use mathlib.Core.List.{List, [], _∷_, flatten}
 use mathlib.Core.Bool.{true, _&&_}
-use Prim.Native.Nat.{ℕ, zero, suc, _-_, _*_, _/_, _%_, _<_}
+use Prim.Native.Nat.{_-_, _*_}
 use native.Mathlib.Omega.{arith}
 use borrow.Author.Tests.{leb-true}
 use lib.Dec.{leb}
-use lib.IntN.{ℤ}
-use lib.ListN.{length, replicate}
-use Rattle.names.specs.declared.Tuple.{Tuple}
-use Rattle.names.specs.Ordering.{Row}
+use lib.ListN.{length}
 use Rattle.names.specs.Names.{limit, fits, isName}
 use Rattle.numbers.proofs.Bools.{and-0, and-1}
-use Rattle.names.proofs.Validity.{Ordinary, Middle, plain, marker-m, marker-M, Ends, final, onward, name-valid, valid-ends}
-use Rattle.numbers.proofs.Octets.{AllBytes, nil, byte, all-octets, join, zeros, two, four}
-use Rattle.numbers.specs.Bytes.{Bytes, Octets, unsigned, bytes16, bytes32}
+use Rattle.numbers.proofs.Octets.{AllBytes, nil, byte, all-octets, join, zeros, four}
+use Rattle.numbers.specs.Bytes.{Octets}
 use Rattle.numbers.specs.Lists.{every}
-use Rattle.slots.specs.Tuples.{tupleSize, tupleBytes, rowBytes}
+use Rattle.slots.specs.Tuples.{tupleSize}
 use Rattle.slots.specs.Slots.{bytesOver, Slot, slotBytes, isSlot}
-use Rattle.numbers.proofs.TwosComplement.{Word, high, low}
-use Rattle.slots.proofs.RoundTrip.{Words, more, name-words}
+use Rattle.slots.proofs.NameOctets.{name-all}
 use Rattle.pages.specs.Pages.{pieces}
 use Rattle.numbers.proofs.Lists.{flat, flat-none}
-
--- ── names ──
-
-word-small : {z : ℤ} → Word z → unsigned z < 4294967296
-word-small (high h) = omega arith
-word-small (low h) = omega arith
-
--- the numbers before the offset
-record Small (t : Tuple) : Type 0 where
-  position : t .position < 65536
-  node : t .node < 65536
-  sequence : t .sequence < 4294967296
-
-ordinary-small : {t : Tuple} → Ordinary t → Small t
-ordinary-small o = record { position = omega (arith, o .position-max); node = omega (arith, o .node-max); sequence = omega (arith, o .sequence-max) }
-
-middle-small : {t : Tuple} → Middle t → Small t
-middle-small (plain o) = ordinary-small o
-middle-small (marker-m e) = rw e (record { position = omega arith; node = omega arith; sequence = omega arith })
-middle-small (marker-M e) = rw e (record { position = omega arith; node = omega arith; sequence = omega arith })
-
-tuple-all : {t : Tuple} → Small t → Word (t .offset) → AllBytes (tupleBytes t)
-unfolding tupleBytes
-tuple-all {t} s w =
-    join (join (join (two (t .position) (s .position)) (two (t .node) (s .node))) (four (t .sequence) (s .sequence))) (four (unsigned (t .offset)) (word-small w))
-
-row-all : {a : Row} → Ends a → Words a → AllBytes (rowBytes a)
-row-all (final o h) (more w ws) = join (tuple-all (ordinary-small o) w) nil
-row-all (onward b e) (more w ws) = join (tuple-all (middle-small b) w) (row-all e ws)
-
-pub name-all : (a : Row) → isName a ≡ true → AllBytes (rowBytes a)
-name-all a e = row-all (valid-ends (name-valid a e)) (name-words a e)
-
--- ── slots ──
 
 slot-all : (x : Slot) → isSlot x ≡ true → AllBytes (slotBytes x)
 unfolding bytesOver

@@ -1,5 +1,5 @@
 -- The tuples of a slot copied with the zeros after them (`run`), of a slot of the log too (`logged-run`); pieces written one after the other (`put-two`),
--- or over the last bytes of one (`put-over`), after a slot's head a slot (`slot-of`). Assumes nothing.
+-- after a slot's head a slot (`slot-of`). Assumes nothing.
 use mathlib.Core.Path.{_≡_, refl, _∙_, sym, ap}
 use mathlib.Core.Bool.{true}
 use mathlib.Core.List.{[], _∷_, _++_, append-assoc}
@@ -12,12 +12,11 @@ use Rattle.names.specs.Names.{limit, m}
 use Rattle.numbers.specs.Bytes.{Bytes, Octets, allZero, bytes32, put}
 use Rattle.numbers.proofs.Lists.{next-to}
 use Rattle.numbers.proofs.Octets.{octets-take, octets-drop}
-use Rattle.numbers.proofs.Put.{put-put, put-more, put-length}
+use Rattle.numbers.proofs.Put.{put-more}
 use Rattle.numbers.proofs.Zeros.{all-zeros}
 use Rattle.slots.specs.Tuples.{tupleSize, tuplesAt, rowBytes}
 use Rattle.slots.specs.Slots.{headSize, slotSize, depthOf, nameOf, bytesOver, slotBytes}
 use Rattle.slots.proofs.TuplesInBytes.{take-tuplesAt, drop-tuplesAt, length-tuplesAt}
-use Rattle.slots.proofs.CopiedTuples.{later-first}
 use Rattle.slots.proofs.RoundTrip.{Kept, kept, here-row}
 use Rattle.pages.specs.Pages.{namesOf, isLog}
 use Rattle.pages.proofs.SlotBySlot.{lent, lent-keeps, lent-name}
@@ -110,21 +109,6 @@ module _ (o : Bytes) (p : ℕ) (h : p ≤ length o) where
       let n = length-append a b in
       let i : r ≡ p + length (a ++ b) = omega arith in
       put-more o p h (a ++ b) c (put-more o p h a b e f g) i l ∙ ap (put o p) (append-assoc a b c)
-
-  -- w and x, and then y over x: what it does not reach of x stays
-  pub put-over : (w x y : Bytes) {d e : Bytes} {q : ℕ} → p + length w ≤ length o → d ≡ put o p (w ++ x) → q ≡ p + length w → e ≡ put d q y → e ≡ put o p (w ++ (y ++ drop (length y) x))
-  put-over w x y k a b c =
-      let q = p + length w in
-      let first = put o p w in
-      let l = put-length o p h w k in
-      let f : q ≡ q + 0 = omega arith in
-      let g : length y - 0 ≡ length y = omega arith in
-      c
-      ∙ (λ i. put ((a ∙ sym (put-put o p h w x)) i) (b i) y)
-      ∙ ap (λ (j : ℕ). put (put first j x) q y) f
-      ∙ later-first first q (omega arith) 0 x y (omega arith) (omega arith)
-      ∙ ap (λ (j : ℕ). put first q (y ++ drop j x)) g
-      ∙ put-put o p h w (y ++ drop (length y) x)
 
   -- the head, and then the tuples and the zeros up to the end of the slot
   pub slot-of : (line : ℕ) (a : Row) {d : ℕ} {w z : Bytes} → d ≡ length a → w ≡ rowBytes a ++ replicate (tupleSize * (limit - length a)) 0 →

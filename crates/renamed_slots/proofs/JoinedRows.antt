@@ -16,13 +16,13 @@ use Rattle.names.proofs.Laws.{below-length}
 use Rattle.numbers.specs.Bytes.{Bytes, put}
 use Rattle.slots.specs.Tuples.{tupleSize, tupleBytes, rowBytes}
 use Rattle.slots.proofs.RoundTrip.{name-long}
+use Rattle.slots.proofs.CopiedTuples.{put-over}
 use Rattle.slots.proofs.WrittenSlots.{tuple-length, row-append, row-length, row-more}
 use Rattle.pages.specs.Pages.{namesOf, isLog}
 use Rattle.one_name.specs.declared.Back.{Back}
 use Rattle.one_name.specs.Backs.{shaped, Stands}
 use Rattle.one_name.proofs.CheckedLog.{log-named}
 use Rattle.renamed_slots.specs.Joints.{belowIf, markerIf, joint}
-use Rattle.renamed_slots.proofs.CopiedTuples.{put-over}
 
 -- all tuples of r but the last, then t, and then those of v
 abbrev pub ended : Row → Tuple → Row → Row

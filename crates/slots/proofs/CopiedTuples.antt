@@ -1,13 +1,13 @@
 -- Tuples copied as bytes: three words are a tuple's bytes (`three-words`), what is copied after m bytes joins them (`copied-on`), or is
--- copied over the last of them (`copied-over`), and as many bytes as n tuples have are these (`copied-row`). Zeros that are written before
--- what stands in their place (`zeros-first`, of anything `later-first`). Assumes nothing.
+-- copied over the last of them (`copied-over`; up to the end, `copied-last`), and as many bytes as n tuples have are these (`copied-row`). Zeros that are written before
+-- what stands in their place (`zeros-first`), and bytes that are written over the last of others (`put-over`). Assumes nothing.
 use mathlib.Core.Path.{_≡_, refl, sym, ap, _∙_}
 use mathlib.Core.List.{_++_, append-assoc, append-nil}
 use Prim.Native.Nat.{ℕ, _+_, _-_, _*_, _≤_}
 use native.Mathlib.Decide.{decLe}
 use native.Mathlib.Omega.{arith}
 use lib.ListN.{length, take, drop, replicate, length-append, length-take, length-drop, length-replicate, drop-of-length-le, replicate-append-replicate, take-append-drop}
-use lib.Seq.{take-at, drop-at, drop-drop, drop-append-le, drop-append-add, length-take-le, take-add}
+use lib.Seq.{take-at, drop-at, drop-drop, drop-append-le, drop-append-add, length-take-le, take-add, take-all}
 use Rattle.numbers.specs.Bytes.{Bytes, Octets, at32, bytes32, put}
 use Rattle.numbers.proofs.Lists.{next-to}
 use Rattle.numbers.proofs.NumberBytes.{here32}
@@ -68,7 +68,7 @@ module _ (o : Bytes) (p : ℕ) (h : p ≤ length o) where
       ∙ (λ i. append-assoc first y left i ++ drop (p + long i) o)
 
   -- z written first, from number a on, and then w, over all before it and the first of z
-  pub later-first : (a : ℕ) (z w : Bytes) → p + a ≤ length o → a ≤ length w → put (put o (p + a) z) p w ≡ put o p (w ++ drop (length w - a) z)
+  later-first : (a : ℕ) (z w : Bytes) → p + a ≤ length o → a ≤ length w → put (put o (p + a) z) p w ≡ put o p (w ++ drop (length w - a) z)
   later-first a z w k l =
       let t = take a (drop p o) in
       let d = length-drop p o in
@@ -91,6 +91,15 @@ module _ (o : Bytes) (p : ℕ) (h : p ≤ length o) where
       ∙ ap (λ (n : ℕ). put o p (w ++ drop j (replicate n 0))) e
       ∙ ap (λ (x : Bytes). put o p (w ++ drop j x)) (sym (replicate-append-replicate j (a + m - length w) 0))
       ∙ ap (λ (x : Bytes). put o p (w ++ x)) (drop-at (replicate j 0) (replicate (a + m - length w) 0) j (length-replicate j 0))
+
+-- w and x from p on, and then y over x: what it does not reach of x stays
+pub put-over : (o : Bytes) (p : ℕ) → p ≤ length o → (w x y : Bytes) {d e : Bytes} {q : ℕ} →
+    p + length w ≤ length o → d ≡ put o p (w ++ x) → q ≡ p + length w → e ≡ put d q y → e ≡ put o p (w ++ (y ++ drop (length y) x))
+put-over o p h w x y k a b c =
+    c
+    ∙ (λ i. put ((a ∙ sym (put-put o p h w x)) i) (b i) y)
+    ∙ put-again (put o p w) (p + length w) (omega (arith, put-length o p h w k)) x y
+    ∙ put-put o p h w (y ++ drop (length y) x)
 
 module _ (o s : Bytes) (p at m n : ℕ) {d e : Bytes} (h : p ≤ length o) (g : at + m ≤ length s) where
   pub copied-on :
@@ -125,3 +134,12 @@ module _ (o s : Bytes) (p at m b n : ℕ) {d e : Bytes} (h : p + (b + n) ≤ len
       ∙ put-again first (p + b) fits x y
       ∙ ap (λ (z : Bytes). put first (p + b) (y ++ z)) (drop-of-length-le x none)
       ∙ ap (put first (p + b)) (append-nil y))
+
+-- m bytes of s from its first on, and then its last n, some of which stand there already
+pub copied-last : (o s : Bytes) (p m n : ℕ) {d e : Bytes} → p + length s ≤ length o → m ≤ length s → n ≤ length s → length s ≤ m + n
+    → d ≡ put o p (take m s) → e ≡ put d (p + (length s - n)) (take n (drop (length s - n) s)) → e ≡ put o p s
+copied-last o s p m n {d} h u v w f g =
+    let b = length s - n in
+    let z : b ≡ 0 + b = omega arith in
+    copied-over o s p 0 m b n (omega arith) (omega arith) (omega arith) (omega arith) f (g ∙ ap (λ (j : ℕ). put d (p + b) (take n (drop j s))) z)
+    ∙ ap (put o p) (take-all (b + n) s (omega arith))

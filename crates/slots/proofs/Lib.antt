@@ -6,6 +6,7 @@ pub mod NameTests
 pub mod LookedAt
 pub mod WrittenSlots
 pub mod RoundTrip
+pub mod NameOctets
 pub mod CopiedTuples
 pub mod HeldNames
 pub mod Settled

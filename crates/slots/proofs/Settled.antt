@@ -12,6 +12,7 @@ use Rattle.slots.proofs.read_line.Reads as read-line
 use Rattle.slots.proofs.compare_rows.Reads as compare-rows
 use Rattle.slots.proofs.compare_to_one.Reads as compare-to-one
 use Rattle.slots.proofs.compare_slots.Reads as compare-slots
+use Rattle.slots.proofs.is_name_at.Reads as is-name-at
 use Rattle.slots.proofs.follows.Reads as follows
 use Rattle.slots.proofs.look_after.Reads as look-after
 use Rattle.slots.proofs.write_tuple.Reads as write-tuple
@@ -47,6 +48,9 @@ compare-to-one-settled κs a r s r' s' p q = one p q
 
 pub compare-slots-settled : (κs : _) (a : _) (r : _) (s : _) (r' : _) (s' : _) → compare-slots.Learnt κs a r s → compare-slots.Learnt κs a r' s' → r ≡ r'
 compare-slots-settled κs a r s r' s' p q = one p q
+
+pub is-name-at-settled : (κs : _) (a : _) (r : _) (s : _) (r' : _) (s' : _) → is-name-at.Learnt κs a r s → is-name-at.Learnt κs a r' s' → r ≡ r'
+is-name-at-settled κs a r s r' s' p q = one p q
 
 pub follows-settled : (κs : _) (a : _) (r : _) (s : _) (r' : _) (s' : _) → follows.Learnt κs a r s → follows.Learnt κs a r' s' → r ≡ r'
 follows-settled κs a r s r' s' p q = one p q

@@ -362,6 +362,14 @@ fn name_from(s: &[u8], p: usize, n: usize, k: usize) -> bool
     leads_from(s, p, last, k)
 }
 
+// The n tuples from p on are a name.
+pub fn is_name_at(s: &[u8], p: usize, n: usize) -> bool
+    requires { ⌜ (1 ≤ n) × (n ≤ limit) × (p + tupleSize * n ≤ length (now s)) ⌝ }
+    ensures { λ r. ⌜ r ≡ isName (tuplesAt (now (s .entry)) p n) ⌝ }
+{
+    name_from(s, p, n, 0)
+}
+
 // Of two rows whose first i tuples are equal, and no more, the first is below the second: "Names compare at the first tuple that differs; a
 // proper prefix is smaller".
 fn rises_at(a: &[u8], p: usize, n: usize, s: &[u8], q: usize, d: usize, i: usize) -> bool
@@ -592,18 +600,44 @@ fn copy_four(out: &mut [u8], p: usize, s: &[u8], at: usize)
     write_three(out, p + TUPLE * 3, j, k, l);
 }
 
-// All bytes of src, written from p on: four tuples' bytes at a time as long as there are so many left. This is for many slots at once; the compiler
-// makes fewer steps of it than of single bytes.
+// All bytes of src, which are fewer than four tuples have, written from p on: in two pieces of one size that may be the same in part, and those
+// that are fewer than a tuple has one by one.
+fn copy_short(out: &mut [u8], p: usize, src: &[u8])
+    requires { ⌜ (p + length (now src) ≤ length (now out)) × (length (now src) ≤ 4 * tupleSize) ⌝ }
+    ensures { λ _. ⌜ now (out .exit) ≡ put (now (out .entry)) p (now (src .entry)) ⌝ }
+{
+    let n = src.len();
+    if n < TUPLE {
+        numbers::copy(out, p, src);
+        return;
+    }
+    if n < 2 * TUPLE {
+        copy_one(out, p, src, 0);
+        copy_one(out, p + (n - TUPLE), src, n - TUPLE);
+        return;
+    }
+    copy_two(out, p, src, 0);
+    copy_two(out, p + (n - 2 * TUPLE), src, n - 2 * TUPLE);
+}
+
+// All bytes of src, written from p on: four tuples' bytes at a time as long as there are more left, and then the last so many, which may be written already
+// in part. The compiler makes fewer steps of it than of single bytes.
 pub fn copy_long(out: &mut [u8], p: usize, src: &[u8])
     requires { ⌜ p + length (now src) ≤ length (now out) ⌝ }
     ensures { λ _. ⌜ now (out .exit) ≡ put (now (out .entry)) p (now (src .entry)) ⌝ }
 {
+    let n = src.len();
+    if n < FEW * TUPLE {
+        copy_short(out, p, src);
+        return;
+    }
+    let last = n - FEW * TUPLE;
     let mut i: usize = 0;
-    while FEW * TUPLE <= src.len() - i {
+    while i < last {
         copy_four(out, p + i, src, i);
         i += FEW * TUPLE;
     }
-    numbers::copy(out, p + i, &src[i..]);
+    copy_four(out, p + last, src, last);
 }
 
 // The bytes of n tuples, four to eight: the first four and the last four, which may be the same in part.

@@ -3,17 +3,16 @@ use mathlib.Core.Path.{_≡_, refl, _∙_, ap}
 use Prim.Native.Nat.{ℕ, _+_, _-_, _≤_}
 use native.Mathlib.Omega.{arith}
 use denote.Ref.{now}
-use lib.ListN.{length, take, drop, length-take, length-drop}
-use lib.Seq.{take-all}
+use lib.ListN.{length, take, drop}
 use Rattle.numbers.specs.Bytes.{Bytes, put}
 use Rattle.numbers.proofs.Put.{put-none}
-use Rattle.slots.proofs.CopiedTuples.{copied-on}
+use Rattle.slots.proofs.CopiedTuples.{copied-on, copied-last}
 use borrow.Author.Needs.{needs}
 use Rattle.slots.proofs.copy_long.Statement.{statement}
 use Rattle.slots.proofs.copy_long.Tie as tie
 
 abbrev Inv-loop : tie.InvT-loop
-Inv-loop out₀ p src i₀ out i = (i ≤ length src) × (length out ≡ length out₀) × (out ≡ put out₀ p (take i src))
+Inv-loop out₀ p src n last i₀ out i = (i ≤ length src) × (length out ≡ length out₀) × (out ≡ put out₀ p (take i src))
 
 -- i bytes of s stand from p on, and then n more
 more : (o s : Bytes) (p i n : ℕ) {d e : Bytes} → p ≤ length o → i ≤ length s → d ≡ put o p (take i s) → e ≡ put d (p + i) (take n (drop i s)) → e ≡ put o p (take (i + n) s)
@@ -22,18 +21,30 @@ more o s p i n {d} h k f g =
     copied-on o s p 0 i n h (omega arith) f (g ∙ ap (λ (j : ℕ). put d (p + i) (take n (drop j s))) z)
 
 abbrev μ-loop : tie.MeasureT-loop
-μ-loop out₀ p src i₀ out i = length src - i
+μ-loop out₀ p src n last i₀ out i = length src - i
+
+mul-if1 : tie.Need-mul-if1 Inv-loop μ-loop
+mul-if1 c = search needs
+
+copy-short-requires : tie.Need-copy-short-requires Inv-loop μ-loop
+copy-short-requires c κs = search needs
+
+same-length : tie.Need-same-length Inv-loop μ-loop
+same-length c = search needs
+
+returns : tie.Need-returns Inv-loop μ-loop
+returns c = search needs
+
+mul-last : tie.Need-mul-last Inv-loop μ-loop
+mul-last c = search needs
+
+sub-last : tie.Need-sub-last Inv-loop μ-loop
+sub-last c = search needs
 
 loop-holds : tie.Need-loop-holds Inv-loop μ-loop
 loop-holds c =
     let start : tie.Start Inv-loop μ-loop = search needs in
     (omega arith, refl, put-none (now (start .args .out)) (start .args .p))
-
-mul-loop : tie.Need-mul-loop Inv-loop μ-loop
-mul-loop c = search needs
-
-sub-loop : tie.Need-sub-loop Inv-loop μ-loop
-sub-loop c = omega arith
 
 add-copy-four : tie.Need-add-copy-four Inv-loop μ-loop
 add-copy-four c = omega arith
@@ -67,43 +78,28 @@ loop-again c =
     let on = more o s (start .args .p) i 48 (omega (arith, start .pre)) (at-loop .loop .inv .0) (at-loop .loop .inv .2) (after-copy-four .copy-four .ensures) in
     (omega (arith, in-loop .loop-test .taken), omega (arith, k, at-loop .loop .inv .1), on)
 
-add-copy : tie.Need-add-copy Inv-loop μ-loop
-add-copy c = omega arith
+add-copy-four-2 : tie.Need-add-copy-four-2 Inv-loop μ-loop
+add-copy-four-2 c = omega arith
 
-sub-copy : tie.Need-sub-copy Inv-loop μ-loop
-sub-copy c = omega arith
-
-part-copy-start : tie.Need-part-copy-start Inv-loop μ-loop
-part-copy-start c = omega arith
-
-part-copy-end : tie.Need-part-copy-end Inv-loop μ-loop
-part-copy-end c = omega arith
-
-copy-requires : tie.Need-copy-requires Inv-loop μ-loop
-copy-requires c κs =
+copy-four-requires-2 : tie.Need-copy-four-requires-2 Inv-loop μ-loop
+copy-four-requires-2 c κs =
     let at-loop : tie.At-loop Inv-loop μ-loop = search needs in
     let start : tie.Start Inv-loop μ-loop = search needs in
-    let s = now (start .args .src) in
-    let i = at-loop .loop .i in
-    let t = length-take (length s - i) (drop i s) in
-    let d = length-drop i s in
-    omega (arith, at-loop .loop .inv .0, at-loop .loop .inv .1, start .pre)
+    (omega (arith, at-loop .loop .inv .1, start .pre), omega arith)
 
-same-length : tie.Need-same-length Inv-loop μ-loop
-same-length c = search needs
+same-length-2 : tie.Need-same-length-2 Inv-loop μ-loop
+same-length-2 c = search needs
 
-returns : tie.Need-returns Inv-loop μ-loop
-returns c =
-    let after-copy : tie.After-copy Inv-loop μ-loop = search needs in
+returns-2 : tie.Need-returns-2 Inv-loop μ-loop
+returns-2 c =
+    let after-copy-four2 : tie.After-copy-four2 Inv-loop μ-loop = search needs in
+    let after-loop : tie.After-loop Inv-loop μ-loop = search needs in
     let at-loop : tie.At-loop Inv-loop μ-loop = search needs in
     let start : tie.Start Inv-loop μ-loop = search needs in
-    let o = now (start .args .out) in
-    let s = now (start .args .src) in
-    let p = start .args .p in
     let i = at-loop .loop .i in
     let inside = at-loop .loop .inv .0 in
-    more o s p i (length s - i) (omega (arith, start .pre)) inside (at-loop .loop .inv .2) (after-copy .copy .ensures)
-    ∙ ap (put o p) (take-all (i + (length s - i)) s (omega arith))
+    let passed = after-loop .loop-test .left in
+    copied-last (now (start .args .out)) (now (start .args .src)) (start .args .p) i 48 (start .pre) inside (omega arith) (omega arith) (at-loop .loop .inv .2) (after-copy-four2 .copy-four2 .ensures)
 
 pub copy-long-spec : {M : Type 1} → statement M
 copy-long-spec =
@@ -111,19 +107,20 @@ copy-long-spec =
     (tie.spec
     Inv-loop
     μ-loop
+    mul-if1
+    copy-short-requires
+    same-length
+    returns
+    mul-last
+    sub-last
     loop-holds
-    mul-loop
-    sub-loop
     add-copy-four
     copy-four-requires
     mul-i
     add-i
     loop-less
     loop-again
-    add-copy
-    sub-copy
-    part-copy-start
-    part-copy-end
-    copy-requires
-    same-length
-    returns)
+    add-copy-four-2
+    copy-four-requires-2
+    same-length-2
+    returns-2)
