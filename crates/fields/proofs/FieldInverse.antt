@@ -1,24 +1,34 @@
 -- A field at the beginning of some bytes: what is written is read back (`size-back`, `after-back`, `stands-back`), and where
--- one stands the bytes begin with its writing (`field-there`). Assumes nothing.
+-- one stands the bytes begin with its writing (`field-there`). What is written is bytes (`field-all`), each of which can be a piece by
+-- itself (`flat-single`); where nothing follows there are none (`is-nothing`). Assumes nothing.
 use mathlib.Core.Path.{_≡_, refl, sym, ap, _∙_}
-use mathlib.Core.List.{[], _∷_, _++_}
+use mathlib.Core.List.{[], _∷_, _++_, map, flatten}
 use mathlib.Core.Bool.{true, _&&_}
 use Prim.Native.Nat.{ℕ, _+_, _<_, _≤_}
 use native.Mathlib.Omega.{arith}
 use borrow.Author.Tests.{le-leb, eq-eqb, leb-true, eqb-true}
 use lib.Dec.{leb, eqb}
-use lib.ListN.{length, take, drop, length-append, length-take, length-drop, take-append-drop}
+use lib.ListN.{length, take, drop, length-append, length-take, length-drop, take-append-drop, drop-of-length-le}
 use lib.Seq.{drop-cons, drop-at}
 use Rattle.numbers.proofs.Bools.{and-0, and-1}
 use Rattle.numbers.specs.Bytes.{Bytes, Octets, bytes16}
-use Rattle.numbers.proofs.Lists.{next-to}
+use Rattle.numbers.proofs.Lists.{next-to, flat, flat-none}
 use Rattle.numbers.proofs.NumberBytes.{here16}
-use Rattle.fields.specs.Fields.{fieldHead, tagIn, sizeIn, afterField, stands, fieldBytes}
+use Rattle.numbers.proofs.Octets.{AllBytes, byte, join, two}
+use Rattle.fields.specs.Fields.{fieldHead, longestContent, tagIn, sizeIn, afterField, stands, fieldBytes, nothing, single}
 
 -- ── from a field and back ──
 
 pub field-length : (tag : ℕ) (content : Bytes) → length (fieldBytes tag content) ≡ fieldHead + length content
 field-length tag content = omega arith
+
+pub field-all : (tag : ℕ) (content : Bytes) → tag < 256 → length content ≤ longestContent → AllBytes content → AllBytes (fieldBytes tag content)
+field-all tag content h l k = byte tag h (join (two (length content) (omega arith)) k)
+
+-- bytes one by one
+pub flat-single : (s : Bytes) → flatten (map single s) ≡ s
+flat-single [] = flat-none
+flat-single (x ∷ s) = flat (single x) (map single s) ∙ ap (λ (l : Bytes). x ∷ l) (flat-single s)
 
 module _ (tag : ℕ) (content r : Bytes) where
   pub size-back : sizeIn (fieldBytes tag content ++ r) ≡ length content
@@ -36,6 +46,9 @@ module _ (tag : ℕ) (content r : Bytes) where
       λ i. le-leb (fieldHead + size) (length s) l i && eq-eqb tag tag refl i && eq-eqb (sizeIn s) size (size-back ∙ e) i
 
 -- ── from bytes and back ──
+
+pub is-nothing : (s : Bytes) → nothing s ≡ true → s ≡ []
+is-nothing s e = drop-of-length-le s {i = 0} (let z = eqb-true (length s) 0 e in omega arith)
 
 -- what the test of a field has found
 pub record Standing (tag size : ℕ) (s : Bytes) : Type 0 where

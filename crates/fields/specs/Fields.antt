@@ -1,7 +1,7 @@
 -- Fields: document 01, "Messages". "Fields of one-byte tag, two-byte length, content". Which tags there are and what a content is, is
 -- said by who uses them. What is read is read at the beginning of some bytes: a cursor at p looks at `drop p s`.
 use Prim.Native.Nat.{ℕ, _+_}
-use mathlib.Core.List.{_∷_, _++_}
+use mathlib.Core.List.{[], _∷_, _++_}
 use mathlib.Core.Bool.{Bool, _&&_}
 use lib.ListN.{length, drop, getD}
 use lib.Dec.{eqb, leb}
@@ -35,3 +35,13 @@ stands tag size s = leb (fieldHead + size) (length s) && eqb (tagIn s) tag && eq
 
 abbrev pub fieldBytes : ℕ → Bytes → Bytes
 fieldBytes tag content = (tag ∷ bytes16 (length content)) ++ content
+
+-- ── what is made of fields ──
+
+-- "nothing after" the last field
+abbrev pub nothing : Bytes → Bool
+nothing s = eqb (length s) 0
+
+-- each byte by itself: the pieces of what is written, whose count is that of its bytes
+abbrev pub single : ℕ → Bytes
+single b = b ∷ []

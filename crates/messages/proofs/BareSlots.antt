@@ -8,7 +8,7 @@ use Rattle.numbers.proofs.Bools.{and-0, and-1}
 use Rattle.numbers.specs.Lists.{every}
 use Rattle.slots.specs.Slots.{Slot, isSlot}
 use Rattle.pages.specs.Pages.{nameIn, lineIsZero}
-use Rattle.messages.specs.Messages.{nameFits}
+use Rattle.name_fields.specs.NameFields.{nameFits}
 use Rattle.messages.specs.Calls.{bare}
 
 pub bare-names : (l : List Slot) → every lineIsZero l ≡ true → map bare (map nameIn l) ≡ l

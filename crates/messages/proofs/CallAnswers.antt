@@ -16,14 +16,15 @@ use Rattle.answers.specs.declared.Answer.{Answer}
 use Rattle.answers.specs.declared.Answer.the-variants.{Accepted, Refused}
 use Rattle.answers.specs.Answers.{Outcome, Test, _else_, refuse, accept, write, outcome}
 use Rattle.pages.specs.Pages.{pieces}
-use Rattle.numbers.proofs.Lists.{flat, flat-none}
 use Rattle.pages.proofs.RoundTrip.{written-length}
 use Rattle.answers.proofs.Outcomes.{write-accepted, write-refuses, writes, writes-short}
 use Rattle.answers.specs.Laws.{here, RefusedBy, test, after}
 use Rattle.answers.proofs.Refusals.{passed, failed, accepted-passes, refused-first}
 use Rattle.messages.specs.declared.Numbers.{Numbers}
 use Rattle.messages.specs.Messages.{messageBytes, namesIn, partsIn, keepsMessage}
-use Rattle.messages.specs.Calls.{bare, readOutcome, partsGiven, single, mayWrite, writeOutcome}
+use Rattle.fields.specs.Fields.{single}
+use Rattle.fields.proofs.FieldInverse.{flat-single}
+use Rattle.messages.specs.Calls.{bare, readOutcome, partsGiven, mayWrite, writeOutcome}
 use Rattle.messages.proofs.TestsPassed.{good, parts-message}
 use Rattle.messages.proofs.BareSlots.{bare-slots}
 
@@ -123,11 +124,6 @@ module _ (s : Bytes) (room : ℕ) where
   )
 
 -- ── writing ──
-
--- bytes one by one
-pub flat-single : (s : Bytes) → flatten (map single s) ≡ s
-flat-single [] = flat-none
-flat-single (x ∷ s) = flat (single x) (map single s) ∙ ap (λ (l : Bytes). x ∷ l) (flat-single s)
 
 module _ (x : Numbers) (slots : Bytes) (room : ℕ) where
   abbrev w : Bytes

@@ -3,26 +3,25 @@
 use mathlib.Core.Path.{_≡_, refl, ap, _∙_}
 use mathlib.Core.List.{List, [], _∷_, map, flatten}
 use mathlib.Core.Bool.{Bool, true, false, cond, _&&_}
-use Prim.Native.Nat.{ℕ, zero, suc, _+_, _-_, _*_, _<_, _≤_}
+use Prim.Native.Nat.{ℕ, zero, suc, _+_, _*_, _≤_}
 use native.Mathlib.Omega.{arith}
 use borrow.Author.Tests.{le-leb, leb-true, eqb-true}
 use lib.Dec.{eqb}
-use lib.IntN.{pos}
-use lib.ListN.{length, replicate, length-append}
-use Rattle.names.specs.declared.Tuple.{Tuple}
-use Rattle.names.specs.Ordering.{Row, Rising, none, one, more, sequence, differ}
-use Rattle.names.specs.Names.{limit, fits, isName, endsWell, ordinaryFrom}
+use lib.ListN.{length, length-append}
+use Rattle.names.specs.Ordering.{Row}
+use Rattle.names.specs.Names.{limit, fits, isName}
 use Rattle.numbers.proofs.Bools.{and-0, and-1}
 use Rattle.names.proofs.Laws.{Rising-rising}
 use Rattle.numbers.specs.Bytes.{Bytes, Octets, bytes32}
-use Rattle.slots.specs.Tuples.{tupleSize, rowBytes}
+use Rattle.slots.specs.Tuples.{tupleSize}
 use Rattle.numbers.specs.Lists.{every}
-use Rattle.slots.proofs.WrittenSlots.{row-length}
 use Rattle.pages.specs.Pages.{maxSlots}
 use Rattle.numbers.proofs.Lists.{flat, flat-none}
 use Rattle.fields.specs.Fields.{fieldHead, fieldBytes}
-use Rattle.messages.specs.Messages.{insert, rename, nameTag, lineTag, lineSize, Parts, nameFits, isMessage, nameField, lineFields, messageBytes, namesPlace, partsIn, keepsMessage, longest}
-use Rattle.fields.proofs.FieldInverse.{field-length}
+use Rattle.name_fields.specs.NameFields.{nameFits}
+use Rattle.messages.specs.Messages.{insert, rename, nameTag, lineTag, lineSize, Parts, isMessage, nameField, lineFields, messageBytes, namesPlace, partsIn, keepsMessage, longest}
+use Rattle.name_fields.proofs.NameInverse.{name-length}
+use Rattle.name_fields.proofs.LongestNames.{deep, deeps, deep-length, deeps-fit, deeps-rise, deeps-many}
 use Rattle.messages.proofs.TestsPassed.{Good, good, parts-message}
 use Rattle.messages.proofs.ReadBack.{split}
 use Rattle.messages.proofs.WriteBack.{bytes-back}
@@ -32,15 +31,12 @@ longest-is = refl
 
 -- ── lengths ──
 
-pub name-length : (a : Row) → length (nameField a) ≡ fieldHead + tupleSize * length a
-name-length a = field-length nameTag (rowBytes a) ∙ ap (λ (n : ℕ). fieldHead + n) (row-length a)
-
 names-cons : (a : Row) (l : List Row)
     → length (flatten (map nameField (a ∷ l))) ≡ fieldHead + tupleSize * length a + length (flatten (map nameField l))
 names-cons a l =
     ap length (flat (nameField a) (map nameField l))
     ∙ length-append (nameField a) (flatten (map nameField l))
-    ∙ ap (λ (n : ℕ). n + length (flatten (map nameField l))) (name-length a)
+    ∙ ap (λ (n : ℕ). n + length (flatten (map nameField l))) (name-length nameTag a)
 
 pub message-length : (p : Parts)
     → length (messageBytes p)
@@ -85,18 +81,6 @@ no-longer-read s k h = rw (bytes-back s k h) at (no-longer (partsIn s) (parts-me
 
 -- ── and one is as long ──
 
-step : ℕ → Tuple
-step k = record { position = 1; node = 1; sequence = k; offset = pos 0 }
-
--- a name of as many tuples as there can be, which begins with the k-th of a rising row of tuples
-deep : ℕ → Row
-deep k = step k ∷ replicate (limit - 1) (step 0)
-
--- n such names, from the k-th on
-deeps : ℕ → ℕ → List Row
-deeps zero k = []
-deeps (suc n) k = deep k ∷ deeps n (suc k)
-
 -- a rename of n names
 manyNames : ℕ → Parts
 manyNames n = record {
@@ -104,30 +88,14 @@ manyNames n = record {
   names = deeps n 0;
 }
 
-deep-fits : (k : ℕ) → k ≤ 4294967295 → nameFits (deep k) ≡ true
-unfolding deep step isName endsWell ordinaryFrom
-deep-fits k h = simp (le-leb k 4294967295 h)
-
-deeps-fit : (n k : ℕ) → k + n ≤ 4294967295 → every nameFits (deeps n k) ≡ true
-unfolding deeps
-deeps-fit zero k h = refl
-deeps-fit (suc n) k h = λ i. deep-fits k (omega arith) i && deeps-fit n (suc k) (omega arith) i
-
-deeps-rise : (n k : ℕ) → Rising (deeps n k)
-unfolding deeps deep step
-deeps-rise zero k = none
-deeps-rise (suc zero) k = one
-deeps-rise (suc (suc n)) k = let l : k < suc k = omega arith in more (differ (sequence refl refl l)) (deeps-rise (suc n) (suc k))
-
-deeps-many : (n k : ℕ) → length (deeps n k) ≡ n
-unfolding deeps
-deeps-many zero k = refl
-deeps-many (suc n) k = ap suc (deeps-many n (suc k))
-
 deeps-length : (n k : ℕ) → length (flatten (map nameField (deeps n k))) ≡ n * (fieldHead + tupleSize * limit)
-unfolding deeps deep
+unfolding deeps
 deeps-length zero k = ap length flat-none
-deeps-length (suc n) k = let c = names-cons (deep k) (deeps n (suc k)) in let e = deeps-length n (suc k) in omega arith
+deeps-length (suc n) k =
+    let c = names-cons (deep k) (deeps n (suc k)) in
+    let d = deep-length k in
+    let e = deeps-length n (suc k) in
+    omega arith
 
 many-message : (n : ℕ) → 1 ≤ n → n ≤ maxSlots → isMessage (manyNames n) ≡ true
 unfolding manyNames isMessage

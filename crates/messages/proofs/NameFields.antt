@@ -9,7 +9,8 @@ use lib.ListN.{length}
 use Rattle.names.specs.Ordering.{Row}
 use Rattle.numbers.specs.Bytes.{Bytes}
 use Rattle.fields.specs.Fields.{afterField}
-use Rattle.messages.specs.Messages.{nameStands, tuplesIn, namesWithin, afterNames}
+use Rattle.name_fields.specs.NameFields.{tuplesIn}
+use Rattle.messages.specs.Messages.{nameStands, namesWithin, afterNames}
 
 module _ (s : Bytes) (most : ℕ) where
   pub names-turn : nameStands s ≡ true → namesWithin (suc most) s ≡ tuplesIn s ∷ namesWithin most (afterField s)

@@ -5,49 +5,36 @@ use mathlib.Core.List.{List, [], _∷_, _++_, map, flatten, append-assoc}
 use mathlib.Core.Bool.{Bool, true, false, cond, _&&_, _||_}
 use Prim.Native.Nat.{ℕ, zero, suc, _+_, _*_, _/_, _%_, _≤_}
 use native.Mathlib.Omega.{arith}
-use borrow.Author.Tests.{eq-eqb, eqb-true}
+use borrow.Author.Tests.{eqb-true}
 use lib.Dec.{leb, eqb}
 use lib.ListN.{length}
 use Rattle.names.specs.declared.Author.{Author}
 use Rattle.names.specs.Ordering.{Row}
 use Rattle.names.specs.Names.{fits, isName}
 use Rattle.numbers.proofs.Bools.{and-0, and-1}
-use Rattle.numbers.specs.Bytes.{Bytes, at32, bytes16, bytes32}
-use Rattle.slots.specs.Tuples.{tupleSize, tuplesAt, rowBytes}
+use Rattle.numbers.specs.Bytes.{Bytes, at32, bytes32}
+use Rattle.slots.specs.Tuples.{rowBytes}
 use Rattle.numbers.specs.Lists.{every}
-use Rattle.slots.proofs.WrittenSlots.{row-length}
 use Rattle.numbers.proofs.NumberBytes.{back32}
-use Rattle.slots.proofs.RoundTrip.{row-back, name-words}
 use Rattle.numbers.proofs.Lists.{flat, flat-none, flat-append}
-use Rattle.fields.specs.Fields.{fieldHead, sizeIn, afterField, stands, fieldBytes}
-use Rattle.messages.specs.Messages.{insert, kindTag, epochTag, authorTag, nameTag, lineTag, kindSize, pairSize, lineSize, Parts, nameFits, mostNames, isMessage, pairBytes, nameField, lineFields, messageBytes, pairIn, nameStands, tuplesIn, namesWithin, afterNames, partsIn, nothing, endsAs, framed, keepsMessage}
-use Rattle.fields.proofs.FieldInverse.{size-back, after-back, stands-back}
+use Rattle.fields.specs.Fields.{fieldHead, afterField, stands, fieldBytes, nothing}
+use Rattle.name_fields.specs.NameFields.{nameFits}
+use Rattle.messages.specs.Messages.{insert, kindTag, epochTag, authorTag, nameTag, lineTag, kindSize, pairSize, lineSize, Parts, mostNames, isMessage, pairBytes, nameField, lineFields, messageBytes, pairIn, nameStands, namesWithin, afterNames, partsIn, endsAs, framed, keepsMessage}
+use Rattle.fields.proofs.FieldInverse.{after-back, stands-back}
+use Rattle.name_fields.proofs.NameInverse.{name-stands, tuples-back}
 use Rattle.messages.proofs.NameFields.{names-turn, after-turn, names-stop, after-stop}
 use Rattle.messages.proofs.TestsPassed.{Good, good}
 
 -- ── the names ──
 
 module _ (a : Row) (r : Bytes) where
-  name-stands : nameStands (nameField a ++ r) ≡ true
-  name-stands =
-      let e = size-back nameTag (rowBytes a) r in
-      let z : sizeIn (nameField a ++ r) % tupleSize ≡ 0 = let q = row-length a in omega arith in
-      let s = nameField a ++ r in
-      λ i. stands-back nameTag (rowBytes a) r (sizeIn s) (sym e) i && eq-eqb (sizeIn s % tupleSize) 0 z i
-
-  tuples-back : isName a ≡ true → tuplesIn (nameField a ++ r) ≡ a
-  tuples-back h =
-      let e = size-back nameTag (rowBytes a) r in
-      let n : sizeIn (nameField a ++ r) / tupleSize ≡ length a = let q = row-length a in omega arith in
-      ap (tuplesAt (nameField a ++ r) fieldHead) n ∙ row-back (nameTag ∷ bytes16 (length (rowBytes a))) a r (name-words a h)
-
   names-on : (most : ℕ) → isName a ≡ true → namesWithin (suc most) (nameField a ++ r) ≡ a ∷ namesWithin most r
   names-on most h =
-      names-turn (nameField a ++ r) most name-stands
-      ∙ (λ i. tuples-back h i ∷ namesWithin most (after-back nameTag (rowBytes a) r i))
+      names-turn (nameField a ++ r) most (name-stands nameTag a r)
+      ∙ (λ i. tuples-back nameTag a r h i ∷ namesWithin most (after-back nameTag (rowBytes a) r i))
 
   after-on : (most : ℕ) → afterNames (suc most) (nameField a ++ r) ≡ afterNames most r
-  after-on most = after-turn (nameField a ++ r) most name-stands ∙ ap (afterNames most) (after-back nameTag (rowBytes a) r)
+  after-on most = after-turn (nameField a ++ r) most (name-stands nameTag a r) ∙ ap (afterNames most) (after-back nameTag (rowBytes a) r)
 
 -- the fields of names, and then r, where no name stands
 module _ (r : Bytes) (e : nameStands r ≡ false) where

@@ -19,7 +19,8 @@ use Rattle.answers.specs.declared.Answer.the-variants.{Accepted}
 use Rattle.pages.specs.Pages.{slotsOf, nameIn, namesOf, partsOf, keepsLayout, rises, lineIsZero, isLog}
 use Rattle.pages.proofs.RoundTrip.{laid}
 use Rattle.messages.specs.declared.Numbers.{Numbers}
-use Rattle.messages.specs.Messages.{isKind, isEpoch, isAuthor, nameFits, mostNames, isLine, isMessage}
+use Rattle.name_fields.specs.NameFields.{nameFits}
+use Rattle.messages.specs.Messages.{isKind, isEpoch, isAuthor, mostNames, isLine, isMessage}
 use Rattle.messages.specs.Calls.{readOutcome, numbersRead, mayWrite}
 use Rattle.messages.proofs.TestsPassed.{okNumbers, and-left}
 use Rattle.messages.proofs.CallsInverse.{may-again}

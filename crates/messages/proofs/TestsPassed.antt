@@ -13,7 +13,8 @@ use Rattle.numbers.specs.Bytes.{Bytes}
 use Rattle.numbers.specs.Lists.{every}
 use Rattle.fields.specs.Fields.{stands}
 use Rattle.messages.specs.declared.Numbers.{Numbers}
-use Rattle.messages.specs.Messages.{kindTag, epochTag, authorTag, kindSize, pairSize, epochPlace, authorPlace, Parts, isKind, isEpoch, isAuthor, nameFits, mostNames, isLine, isMessage, kindIn, restIn, partsIn, endsAs, framed, keepsMessage}
+use Rattle.name_fields.specs.NameFields.{nameFits}
+use Rattle.messages.specs.Messages.{kindTag, epochTag, authorTag, kindSize, pairSize, epochPlace, authorPlace, Parts, isKind, isEpoch, isAuthor, mostNames, isLine, isMessage, kindIn, restIn, partsIn, endsAs, framed, keepsMessage}
 use Rattle.fields.proofs.FieldInverse.{Standing, standing}
 
 pub record Good (p : Parts) : Type 0 where

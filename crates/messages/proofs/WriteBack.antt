@@ -3,31 +3,27 @@
 use mathlib.Core.Path.{_≡_, refl, sym, ap, _∙_}
 use mathlib.Core.List.{List, [], _∷_, _++_, map, flatten, append-assoc, append-nil}
 use mathlib.Core.Bool.{Bool, true, false, cond, _&&_}
-use Prim.Native.Nat.{ℕ, zero, suc, _+_, _-_, _*_, _/_, _%_, _<_, _≤_}
+use Prim.Native.Nat.{ℕ, zero, suc, _+_, _-_, _<_, _≤_}
 use native.Mathlib.Omega.{arith}
-use borrow.Author.Tests.{eqb-true}
 use lib.Dec.{eqb}
-use lib.ListN.{length, take, drop, length-drop, drop-of-length-le}
+use lib.ListN.{length, take, drop, length-drop}
 use lib.Seq.{drop-cons, drop-drop}
 use Rattle.names.specs.Ordering.{Row}
 use Rattle.numbers.proofs.Bools.{and-0, and-1}
 use Rattle.numbers.specs.Bytes.{Bytes, Octets, at32, bytes32}
-use Rattle.slots.specs.Tuples.{tupleSize, rowBytes}
 use Rattle.numbers.proofs.Lists.{next-to, flat, flat-none}
 use Rattle.numbers.proofs.NumberBytes.{here16, here32}
-use Rattle.slots.proofs.RoundTrip.{here-row}
 use Rattle.numbers.proofs.Octets.{octets-drop}
-use Rattle.fields.specs.Fields.{fieldHead, sizeIn, afterField, stands, fieldBytes}
-use Rattle.messages.specs.Messages.{insert, kindTag, epochTag, authorTag, nameTag, lineTag, kindSize, pairSize, lineSize, sequencePlace, mostNames, pairBytes, nameField, messageBytes, epochPlace, authorPlace, namesPlace, pairIn, kindIn, nameStands, tuplesIn, namesWithin, afterNames, restIn, partsIn, nothing, keepsMessage}
-use Rattle.fields.proofs.FieldInverse.{Standing, standing, field-there}
+use Rattle.fields.specs.Fields.{fieldHead, sizeIn, afterField, stands, fieldBytes, nothing}
+use Rattle.name_fields.specs.NameFields.{tuplesIn}
+use Rattle.messages.specs.Messages.{insert, kindTag, epochTag, authorTag, nameTag, lineTag, kindSize, pairSize, lineSize, sequencePlace, mostNames, pairBytes, nameField, messageBytes, epochPlace, authorPlace, namesPlace, pairIn, kindIn, nameStands, namesWithin, afterNames, restIn, partsIn, keepsMessage}
+use Rattle.fields.proofs.FieldInverse.{is-nothing, Standing, standing, field-there}
+use Rattle.name_fields.proofs.NameInverse.{name-there}
 use Rattle.messages.proofs.TestsPassed.{frame}
 use Rattle.messages.proofs.ReadBack.{tail, split}
 
 pub flat-one : (f : Bytes) → flatten (f ∷ []) ≡ f
 flat-one f = flat f [] ∙ ap (λ (r : Bytes). f ++ r) flat-none ∙ append-nil f
-
-is-nothing : (s : Bytes) → nothing s ≡ true → s ≡ []
-is-nothing s e = drop-of-length-le s {i = 0} (let z = eqb-true (length s) 0 e in omega arith)
 
 -- ── the fields of fixed sizes ──
 
@@ -53,17 +49,6 @@ module _ (s : Bytes) (k : Octets s) where
 
 -- ── the names ──
 
-name-there : (s : Bytes) → Octets s → nameStands s ≡ true → nameField (tuplesIn s) ++ afterField s ≡ s
-name-there s k e =
-    let size = sizeIn s in
-    let v = standing nameTag size s (and-0 (stands nameTag size s) (eqb (size % tupleSize) 0) e) in
-    let l = v .long in
-    let z = eqb-true (size % tupleSize) 0 (and-1 (stands nameTag size s) (eqb (size % tupleSize) 0) e) in
-    let n : tupleSize * (size / tupleSize) ≡ size = omega arith in
-    let row = here-row s k fieldHead (size / tupleSize) (omega arith) in
-    let c : rowBytes (tuplesIn s) ≡ take size (drop fieldHead s) = row ∙ ap (λ (j : ℕ). take j (drop fieldHead s)) n in
-    ap (λ (x : Bytes). fieldBytes nameTag x ++ afterField s) c ∙ field-there nameTag size s k v
-
 names-there : (most : ℕ) (s : Bytes) → Octets s → flatten (map nameField (namesWithin most s)) ++ afterNames most s ≡ s
 names-there zero s k = ap (λ (x : Bytes). x ++ s) flat-none
 names-there (suc most) s k = go (nameStands s) refl (names-there most (afterField s) (octets-drop (fieldHead + sizeIn s) s k))
@@ -84,7 +69,7 @@ names-there (suc most) s k = go (nameStands s) refl (names-there most (afterFiel
         ap (λ (x : Bytes). x ++ after) (flat here (map nameField names))
         ∙ append-assoc here (flatten (map nameField names)) after
         ∙ ap (λ (x : Bytes). here ++ x) h
-        ∙ name-there s k e
+        ∙ name-there nameTag s k e
 
 after-octets : (most : ℕ) (s : Bytes) → Octets s → Octets (afterNames most s)
 after-octets zero s k = k

@@ -2,29 +2,25 @@
 use mathlib.Core.Path.{_≡_}
 use mathlib.Core.List.{List, [], _∷_, map, flatten}
 use mathlib.Core.Bool.{Bool, true, false, cond, _&&_, _||_}
-use Prim.Native.Nat.{ℕ, _<_, _≤_}
+use Prim.Native.Nat.{ℕ, _≤_}
 use native.Mathlib.Omega.{arith}
 use borrow.Author.Tests.{leb-true}
 use lib.Dec.{leb, eqb}
-use lib.ListN.{length}
 use Rattle.names.specs.declared.Author.{Author}
 use Rattle.names.specs.Ordering.{Row}
-use Rattle.names.specs.Names.{limit, fits, within, isName}
+use Rattle.names.specs.Names.{within}
 use Rattle.numbers.proofs.Bools.{and-0, and-1}
-use Rattle.numbers.specs.Bytes.{Bytes, Octets, bytes32}
-use Rattle.slots.specs.Tuples.{rowBytes}
+use Rattle.numbers.specs.Bytes.{Octets, bytes32}
 use Rattle.numbers.specs.Lists.{every}
-use Rattle.slots.proofs.WrittenSlots.{row-length}
 use Rattle.numbers.proofs.Lists.{flat, flat-none}
 use Rattle.numbers.proofs.Octets.{AllBytes, nil, byte, all-octets, join, two, four}
-use Rattle.pages.proofs.WrittenOctets.{name-all}
-use Rattle.fields.specs.Fields.{longestContent, fieldBytes}
-use Rattle.messages.specs.Messages.{insert, rename, kindTag, epochTag, authorTag, nameTag, lineTag, Parts, nameFits, isMessage, pairBytes, nameField, lineFields, messageBytes}
+use Rattle.fields.specs.Fields.{fieldBytes}
+use Rattle.fields.proofs.FieldInverse.{field-all}
+use Rattle.name_fields.specs.NameFields.{nameFits}
+use Rattle.name_fields.proofs.NameInverse.{name-field-all}
+use Rattle.messages.specs.Messages.{insert, rename, kindTag, epochTag, authorTag, nameTag, lineTag, Parts, isMessage, pairBytes, nameField, lineFields, messageBytes}
 use Rattle.messages.proofs.TestsPassed.{Good, good}
 use Rattle.messages.proofs.ReadBack.{split}
-
-field-all : (tag : ℕ) (content : Bytes) → tag < 256 → length content ≤ longestContent → AllBytes content → AllBytes (fieldBytes tag content)
-field-all tag content h l k = byte tag h (join (two (length content) (omega arith)) k)
 
 pair-all : (x : Author) → x .node ≤ 65535 → x .sequence ≤ 4294967295 → AllBytes (pairBytes x)
 pair-all x h g = join (two (x .node) (omega arith)) (four (x .sequence) (omega arith))
@@ -32,10 +28,7 @@ pair-all x h g = join (two (x .node) (omega arith)) (four (x .sequence) (omega a
 names-all : (l : List Row) → every nameFits l ≡ true → AllBytes (flatten (map nameField l))
 names-all [] e = rw flat-none nil
 names-all (a ∷ l) e =
-    let v = and-0 (nameFits a) (every nameFits l) e in
-    let f = leb-true (length a) limit (and-1 (isName a) (fits a) v) in
-    let s : length (rowBytes a) ≤ longestContent = let r = row-length a in omega arith in
-    let here = field-all nameTag (rowBytes a) (omega arith) s (name-all a (and-0 (isName a) (fits a) v)) in
+    let here = name-field-all nameTag a (omega arith) (and-0 (nameFits a) (every nameFits l) e) in
     rw (flat (nameField a) (map nameField l)) (join here (names-all l (and-1 (nameFits a) (every nameFits l) e)))
 
 line-all : (line : ℕ) → line ≤ 4294967295 → (b : Bool) → AllBytes (flatten (cond b (fieldBytes lineTag (bytes32 line) ∷ []) []))

@@ -11,6 +11,7 @@ use Rattle.answers.specs.declared.Answer.the-variants.{Accepted, Refused}
 use Rattle.answers.specs.declared.Refusal.the-variants.{Malformed}
 use Rattle.answers.specs.Answers.{Outcome, _else_, outcome}
 use Rattle.pages.specs.Pages.{slotsOf, namesOf, pieces, keepsLayout, lineIsZero}
+use Rattle.fields.specs.Fields.{single}
 use Rattle.messages.specs.declared.Numbers.{Numbers}
 use Rattle.messages.specs.Messages.{Parts, isMessage, messageBytes, namesIn, numbersIn, keepsMessage}
 
@@ -45,10 +46,6 @@ partsGiven x slots = record { numbers = x; names = namesOf slots }
 -- "15 for any parts that reading can't give: .. a slot's line number other than 0": reading gives slots, whose line numbers are 0
 abbrev pub mayWrite : Numbers → Bytes → Bool
 mayWrite x slots = keepsLayout slots && isMessage (partsGiven x slots) && every lineIsZero (slotsOf slots)
-
--- each byte by itself: the pieces of a written message
-abbrev pub single : ℕ → Bytes
-single b = b ∷ []
 
 -- "write message 15, 8": the numbers and the slots into an output of so many bytes; the count is that of the bytes written
 unfoldable pub writeOutcome : Numbers → Bytes → ℕ → Outcome

@@ -1,18 +1,19 @@
 -- Messages: document 01, "Messages". The reasons for which one is malformed stand once, in `isMessage`, for reading and for writing.
-use Prim.Native.Nat.{ℕ, zero, suc, _+_, _*_, _/_, _%_}
+use Prim.Native.Nat.{ℕ, zero, suc, _+_, _*_}
 use mathlib.Core.List.{List, [], _∷_, _++_, map, flatten}
 use mathlib.Core.Bool.{Bool, cond, _&&_, _||_}
 use lib.ListN.{length, drop, getD}
 use lib.Dec.{eqb, leb}
 use Rattle.names.specs.declared.Author.{Author}
 use Rattle.names.specs.Ordering.{Row, rising}
-use Rattle.names.specs.Names.{limit, fits, within, isName}
+use Rattle.names.specs.Names.{limit, within}
 use Rattle.numbers.specs.Bytes.{Bytes, at16, at32, bytes16, bytes32}
-use Rattle.slots.specs.Tuples.{tupleSize, tuplesAt, rowBytes}
+use Rattle.slots.specs.Tuples.{tupleSize}
 use Rattle.numbers.specs.Lists.{every}
 use Rattle.pages.specs.Pages.{maxSlots}
 use Rattle.messages.specs.declared.Numbers.{Numbers}
-use Rattle.fields.specs.Fields.{fieldHead, sizeIn, afterField, stands, fieldBytes}
+use Rattle.fields.specs.Fields.{fieldHead, afterField, stands, fieldBytes, nothing}
+use Rattle.name_fields.specs.NameFields.{nameFits, fieldOfName, nameStandsAs, tuplesIn}
 
 -- "kind, one byte (1 insert, 2 remove, 3 rename)"
 abbrev pub insert : ℕ
@@ -73,10 +74,6 @@ isEpoch e = leb (e .node) 65535 && leb (e .sequence) 4294967295 && (leb 1 (e .no
 abbrev pub isAuthor : Author → Bool
 isAuthor a = within 1 65535 (a .node) && leb (a .sequence) 4294967295
 
--- a name, which has "at most eight tuples" (02, P8: sixteen)
-abbrev pub nameFits : Row → Bool
-nameFits a = isName a && fits a
-
 -- "for insert tag 4 ..; for remove one tag 4; for rename 1..256 tags 4": at most so many names, and at least one
 abbrev pub mostNames : ℕ → ℕ
 mostNames kind = cond (eqb kind rename) maxSlots 1
@@ -100,7 +97,7 @@ pairBytes x = bytes16 (x .node) ++ bytes32 (x .sequence)
 
 -- "tag 4 (a name's tuples, 12 bytes each)"
 abbrev pub nameField : Row → Bytes
-nameField a = fieldBytes nameTag (rowBytes a)
+nameField a = fieldOfName nameTag a
 
 -- "for insert .. tag 5 (line number, 4 bytes)"
 abbrev pub lineFields : ℕ → ℕ → List Bytes
@@ -136,13 +133,9 @@ pairIn s p = record { node = at16 s (p + fieldHead); sequence = at32 s (p + fiel
 abbrev pub kindIn : Bytes → ℕ
 kindIn s = getD s fieldHead 0
 
--- a name's field stands whole at the beginning of s: "a name's tuples, 12 bytes each"
+-- a name's field stands whole at the beginning of s
 abbrev pub nameStands : Bytes → Bool
-nameStands s = stands nameTag (sizeIn s) s && eqb (sizeIn s % tupleSize) 0
-
--- the tuples in it
-abbrev pub tuplesIn : Bytes → Row
-tuplesIn s = tuplesAt s fieldHead (sizeIn s / tupleSize)
+nameStands s = nameStandsAs nameTag s
 
 -- the names whose fields stand one after the other from the beginning of s on, at most so many
 abbrev pub namesWithin : ℕ → Bytes → List Row
@@ -171,9 +164,6 @@ abbrev pub partsIn : Bytes → Parts
 partsIn s = record { numbers = numbersIn s; names = namesIn s }
 
 -- ── the layout ──
-
-abbrev pub nothing : Bytes → Bool
-nothing s = eqb (length s) 0
 
 -- what follows the names: for insert "tag 5 (line number, 4 bytes)", and "nothing after"
 abbrev pub endsAs : ℕ → Bytes → Bool

@@ -17,9 +17,11 @@ use Rattle.slots.specs.Looks.{leads}
 use Rattle.slots.proofs.NameTests.{leads-name}
 use Rattle.pages.proofs.SlotBySlot.{rising-cons}
 use Rattle.fields.specs.Fields.{fieldHead, sizeIn}
-use Rattle.messages.specs.Messages.{nameFits, nameStands, tuplesIn, namesWithin, afterNames}
+use Rattle.name_fields.specs.NameFields.{nameFits, tuplesIn}
+use Rattle.name_fields.proofs.NameAt.{name-long}
+use Rattle.messages.specs.Messages.{nameTag, nameStands, namesWithin, afterNames}
 use Rattle.read_messages.specs.FirstPass.{goodNames}
-use Rattle.read_messages.proofs.AtCursor.{names-next, after-next, name-long}
+use Rattle.read_messages.proofs.AtCursor.{names-next, after-next}
 
 -- names that come after the row b
 abbrev goodAfter : Row → List Row → Bool
@@ -115,7 +117,7 @@ module _ {s : Bytes} {c most : ℕ} {b : Span} {p k : ℕ} (v : Passing s c most
         → Passing s c most a (p + (fieldHead + sizeIn (drop p s))) (k + 1)
     passing-on r f = record {
       few = omega arith;
-      within = name-long s p e;
+      within = name-long nameTag s p e;
       room = r;
       begins = leads-name s (a .at) (a .count) (and-0 (isName here) (fits here) (and-0 (nameFits here) (isLess (compareRows last here)) f));
       good = sym (good-on last here after f) ∙ turn;

@@ -16,7 +16,8 @@ use Rattle.numbers.specs.Lists.{every}
 use Rattle.answers.specs.Answers.{ask}
 use Rattle.fields.specs.Fields.{stands}
 use Rattle.fields.proofs.FieldInverse.{standing}
-use Rattle.messages.specs.Messages.{kindTag, epochTag, authorTag, kindSize, pairSize, isKind, isEpoch, isAuthor, isLine, nameFits, mostNames, isMessage, epochPlace, authorPlace, namesPlace, namesWithin, afterNames, kindIn, namesIn, restIn, numbersIn, endsAs, framed, keepsMessage}
+use Rattle.name_fields.specs.NameFields.{nameFits}
+use Rattle.messages.specs.Messages.{kindTag, epochTag, authorTag, kindSize, pairSize, isKind, isEpoch, isAuthor, isLine, mostNames, isMessage, epochPlace, authorPlace, namesPlace, namesWithin, afterNames, kindIn, namesIn, restIn, numbersIn, endsAs, framed, keepsMessage}
 use Rattle.messages.proofs.NameFields.{names-few}
 use Rattle.messages.proofs.TestsPassed.{okNumbers, and-left}
 use Rattle.read_messages.specs.FirstPass.{numbersStand, goodNames, untold, allTold, telling}

@@ -18,7 +18,8 @@ use Rattle.slots.proofs.RoundTrip.{slot-length}
 use Rattle.pages.specs.Pages.{pieces}
 use Rattle.numbers.proofs.Lists.{flat, flat-none}
 use Rattle.fields.specs.Fields.{fieldHead, sizeIn}
-use Rattle.messages.specs.Messages.{nameFits, nameStands, tuplesIn, namesWithin}
+use Rattle.name_fields.specs.NameFields.{nameFits, tuplesIn}
+use Rattle.messages.specs.Messages.{nameStands, namesWithin}
 use Rattle.messages.specs.Calls.{bare}
 use Rattle.messages.proofs.NameFields.{name-first}
 use Rattle.read_messages.proofs.AtCursor.{names-next}

@@ -7,7 +7,8 @@ use lib.ListN.{length, drop}
 use Rattle.numbers.specs.Bytes.{Bytes}
 use Rattle.numbers.specs.Lists.{every}
 use Rattle.answers.specs.Answers.{ask}
-use Rattle.messages.specs.Messages.{nameFits, mostNames, namesWithin, kindIn, namesPlace, namesIn, numbersIn, partsIn, keepsMessage}
+use Rattle.name_fields.specs.NameFields.{nameFits}
+use Rattle.messages.specs.Messages.{mostNames, namesWithin, kindIn, namesPlace, namesIn, numbersIn, partsIn, keepsMessage}
 use Rattle.messages.proofs.TestsPassed.{good, parts-message}
 use Rattle.messages.proofs.NameFields.{names-exact}
 use Rattle.read_messages.specs.FirstPass.{untold, allTold, telling}

@@ -1,30 +1,24 @@
 -- What the first pass over the bytes asks and finds, which 01 does not speak of: whether they are a message, its numbers, and how many
 -- names it has. The contracts of the functions that read say by it what they hand on to each other. What reading gives is `messages`'
 -- `readOutcome`.
-use Prim.Native.Nat.{ℕ, _/_}
+use Prim.Native.Nat.{ℕ}
 use mathlib.Core.List.{List}
-use mathlib.Core.Bool.{Bool, true, false, cond, _&&_}
+use mathlib.Core.Bool.{Bool, true, false, _&&_}
 use lib.ListN.{length, drop}
 use Rattle.names.specs.Ordering.{Row, rising}
 use Rattle.numbers.specs.Bytes.{Bytes}
 use Rattle.numbers.specs.Lists.{every}
 use Rattle.answers.specs.Answers.{ask}
-use Rattle.slots.specs.Tuples.{tupleSize}
-use Rattle.fields.specs.Fields.{sizeIn, stands}
+use Rattle.fields.specs.Fields.{stands}
 use Rattle.messages.specs.declared.Numbers.{Numbers}
-use Rattle.messages.specs.Messages.{kindTag, epochTag, authorTag, kindSize, pairSize, epochPlace, authorPlace, nameFits, nameStands, namesIn, numbersIn, keepsMessage}
+use Rattle.name_fields.specs.NameFields.{nameFits}
+use Rattle.messages.specs.Messages.{kindTag, epochTag, authorTag, kindSize, pairSize, epochPlace, authorPlace, namesIn, numbersIn, keepsMessage}
 use Rattle.messages.specs.Calls.{zeros}
 use Rattle.read_messages.specs.declared.Told.{Told}
-use Rattle.read_messages.specs.declared.NameField.{NameField}
-use Rattle.read_messages.specs.declared.NameField.the-variants.{Tuples, Nothing}
 
 -- the fields of kind, epoch and author stand at the beginning of s
 abbrev pub numbersStand : Bytes → Bool
 numbersStand s = stands kindTag kindSize s && stands epochTag pairSize (drop epochPlace s) && stands authorTag pairSize (drop authorPlace s)
-
--- what stands at the beginning of s: the whole field of a name, with how many tuples it has, or none
-abbrev pub fieldIn : Bytes → NameField
-fieldIn s = cond (nameStands s) (Tuples (sizeIn s / tupleSize)) Nothing
 
 -- each is a name, and they rise
 abbrev pub goodNames : List Row → Bool

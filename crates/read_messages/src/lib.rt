@@ -16,9 +16,10 @@ ghost use Rattle.slots.specs.Looks.{leads};
 ghost use Rattle.answers.specs.Answers.{ask, leaves};
 ghost use Rattle.pages.specs.Pages.{pieces};
 ghost use Rattle.fields.specs.Fields.{fieldHead};
-ghost use Rattle.messages.specs.Messages.{insert, pairSize, isKind, isEpoch, isAuthor, isLine, nameFits, nameStands, tuplesIn, namesWithin, afterNames, epochPlace, namesPlace, pairIn, kindIn, restIn, numbersIn, endsAs};
+ghost use Rattle.name_fields.specs.NameFields.{nameFits, tuplesIn};
+ghost use Rattle.messages.specs.Messages.{insert, pairSize, isKind, isEpoch, isAuthor, isLine, nameStands, namesWithin, afterNames, epochPlace, namesPlace, pairIn, kindIn, restIn, numbersIn, endsAs};
 ghost use Rattle.messages.specs.Calls.{bare, readOutcome, zeros as noNumbers, numbersRead};
-ghost use Rattle.read_messages.specs.FirstPass.{numbersStand, goodNames, allTold, untold as nothingTold, telling, fieldIn};
+ghost use Rattle.read_messages.specs.FirstPass.{numbersStand, goodNames, allTold, untold as nothingTold, telling};
 use answers::Answer;
 use answers::Refusal;
 use fields::Cursor;
@@ -37,6 +38,7 @@ use messages::NAMES;
 use messages::Numbers;
 use messages::PAIR;
 use messages::SEQUENCE;
+use name_fields::NameField;
 use names::Author;
 use names::LIMIT;
 use slots::SLOT;
@@ -44,31 +46,6 @@ use slots::Span;
 use slots::TUPLE;
 
 // ── what stands at a cursor ──
-
-// What stands at a cursor: the whole field of a name, with how many tuples it has, or none.
-enum NameField {
-    Tuples(usize),
-    Nothing,
-}
-
-// "a name's tuples, 12 bytes each". Their number is found once, with the test that the content is a whole number of them.
-fn name_field(message: &[u8], cursor: Cursor) -> NameField
-    requires { ⌜ cursor .at ≤ length (now message) ⌝ }
-    ensures { λ r. ⌜ r ≡ fieldIn (drop (cursor .at) (now (message .entry))) ⌝ }
-{
-    if message.len() - cursor.at < FIELD {
-        return NameField::Nothing;
-    }
-    let size = fields::size_at(message, cursor);
-    if !fields::field_stands(message, cursor, NAME_TAG, size) {
-        return NameField::Nothing;
-    }
-    let count = size / TUPLE;
-    if TUPLE * count < size {
-        return NameField::Nothing;
-    }
-    NameField::Tuples(count)
-}
 
 // Where the tuples of the name stand whose field stands at the cursor.
 fn span_in(message: &[u8], cursor: Cursor) -> Span
@@ -213,7 +190,7 @@ fn pass_names(message: &[u8], cursor: Cursor, most: usize) -> Passed
                 at,
             };
         }
-        let count = match name_field(message, Cursor { at }) {
+        let count = match name_fields::name_field(message, Cursor { at }, NAME_TAG) {
             NameField::Tuples(n) => n,
             NameField::Nothing => break Passed {
                 good: true,

@@ -1,9 +1,9 @@
--- The names of slots written as fields one after the other (`Filling`, a loop's invariant), the sizes of these fields (`field-size`,
--- `size-next`, `size-end`), and the field of the line number, where there is one (`line-there`, `line-absent`). Assumes nothing.
+-- The names of slots written as fields one after the other (`Filling`, a loop's invariant), the sizes of these fields (`size-next`,
+-- `size-end`), and the field of the line number, where there is one (`line-there`, `line-absent`). Assumes nothing.
 use mathlib.Core.Path.{_≡_, refl, sym, ap, _∙_}
 use mathlib.Core.List.{List, [], _∷_, _++_, map, flatten}
 use mathlib.Core.Bool.{Bool, cond}
-use Prim.Native.Nat.{ℕ, _+_, _*_, _/_, _<_, _≤_}
+use Prim.Native.Nat.{ℕ, _+_, _/_, _<_, _≤_}
 use native.Mathlib.Numerals.{add-one}
 use native.Mathlib.Omega.{arith}
 use borrow.Author.Tests.{eq-eqb, ne-eqb}
@@ -11,26 +11,18 @@ use lib.ListN.{length, drop, getD, length-append, drop-of-length-le}
 use lib.Seq.{drop-cons}
 use Rattle.names.specs.Ordering.{Row}
 use Rattle.numbers.specs.Bytes.{Bytes, bytes32, put}
-use Rattle.slots.specs.declared.Span.{Span}
-use Rattle.slots.specs.Tuples.{tupleSize, rowAt}
 use Rattle.slots.specs.Slots.{slotSize}
 use Rattle.numbers.proofs.Put.{put-put, put-length, put-none}
 use Rattle.pages.specs.Pages.{namesOf}
-use Rattle.slots.proofs.TuplesInBytes.{length-tuplesAt}
 use Rattle.pages.proofs.SlotBySlot.{length-names}
 use Rattle.numbers.proofs.Lists.{flat, flat-none}
-use Rattle.fields.specs.Fields.{fieldHead, fieldBytes}
+use Rattle.fields.specs.Fields.{fieldBytes}
 use Rattle.messages.specs.Messages.{insert, lineTag, nameField, lineFields}
 use Rattle.messages.proofs.WriteBack.{flat-one}
-use Rattle.messages.proofs.Longest.{name-length}
 
 -- the names' fields, one after the other
 abbrev pub fieldsWith : List Row → Bytes
 fieldsWith l = flatten (map nameField l)
-
--- the field of a name that stands in s
-pub field-size : (s : Bytes) (x : Span) → length (nameField (rowAt s x)) ≡ fieldHead + tupleSize * x .count
-field-size s x = name-length (rowAt s x) ∙ ap (λ (n : ℕ). fieldHead + tupleSize * n) (length-tuplesAt s (x .at) (x .count))
 
 -- ── along the slots ──
 

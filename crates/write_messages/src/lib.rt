@@ -6,7 +6,7 @@ ghost use Prim.Native.Nat.{_+_, _*_, _≤_};
 ghost use lib.Dec.{eqb};
 ghost use lib.ListN.{length};
 ghost use Rattle.names.specs.Names.{limit};
-ghost use Rattle.slots.specs.Tuples.{rowAt, Lies, tupleSize};
+ghost use Rattle.slots.specs.Tuples.{tupleSize};
 ghost use Rattle.numbers.specs.Bytes.{put};
 ghost use Rattle.answers.specs.Answers.{leaves};
 ghost use Rattle.pages.specs.Pages.{maxSlots, namesOf, keepsLayout};
@@ -32,7 +32,6 @@ use messages::PAIR;
 use messages::SEQUENCE;
 use names::Author;
 use slots::SLOT;
-use slots::Span;
 use slots::TUPLE;
 
 // ── the fields ──
@@ -65,18 +64,6 @@ fn write_numbers(out: &mut [u8], x: Numbers)
     write_pair(out, AUTHOR, AUTHOR_TAG, x.author);
 }
 
-// The field of a name that stands in s, and the place after it.
-fn write_name(out: &mut [u8], p: usize, s: &[u8], name: Span) -> usize
-    requires { ⌜ Lies (now s) name × (p + length (nameField (rowAt (now s) name)) ≤ length (now out)) ⌝ }
-    ensures { λ r. ⌜ r ≡ p + length (nameField (rowAt (now (s .entry)) name)) ⌝ }
-    ensures { λ r. ⌜ now (out .exit) ≡ put (now (out .entry)) p (nameField (rowAt (now (s .entry)) name)) ⌝ }
-{
-    let size = TUPLE * name.count;
-    fields::write_field_head(out, p, NAME_TAG, size as u16);
-    slots::copy_row(out, p + FIELD, s, name.at, name.count);
-    p + FIELD + size
-}
-
 // The fields of the names in the slots from p on, and the place after them.
 fn write_names(names: &[u8], out: &mut [u8], p: usize) -> usize
     requires { ⌜ p + length (flatten (map nameField (namesOf (now names)))) ≤ length (now out) ⌝ }
@@ -87,7 +74,7 @@ fn write_names(names: &[u8], out: &mut [u8], p: usize) -> usize
     let mut k: usize = 0;
     let mut place = p;
     while k < n {
-        place = write_name(out, place, names, pages::span_of(names, k));
+        place = name_fields::write_name(out, place, NAME_TAG, names, pages::span_of(names, k));
         k += 1;
     }
     place

@@ -8,10 +8,9 @@ use lib.Dec.{eqb}
 use lib.ListN.{length, drop}
 use lib.Seq.{drop-drop}
 use borrow.Author.Tests.{eq-eqb, ne-eqb, not-true, not-false}
-use Rattle.fields.specs.Fields.{fieldHead, sizeIn, afterField, stands}
-use Rattle.fields.proofs.FieldAt.{stands-long}
-use Rattle.messages.specs.Messages.{insert, lineTag, lineSize, nothing}
-use Rattle.read_messages.proofs.AtCursor.{nothing-at}
+use Rattle.fields.specs.Fields.{fieldHead, sizeIn, afterField, stands, nothing}
+use Rattle.fields.proofs.FieldAt.{stands-long, nothing-at}
+use Rattle.messages.specs.Messages.{insert, lineTag, lineSize}
 use borrow.Author.Needs.{needs}
 use Rattle.read_messages.proofs.ends.Statement.{statement}
 use Rattle.read_messages.proofs.ends.Tie as tie

@@ -10,7 +10,7 @@ use Rattle.names.specs.Ordering.{compareRows, isLess}
 use Rattle.names.specs.Names.{limit, isName}
 use Rattle.slots.specs.Tuples.{tuplesAt, rowAt}
 use Rattle.slots.proofs.TuplesInBytes.{length-tuplesAt}
-use Rattle.messages.specs.Messages.{nameFits}
+use Rattle.name_fields.specs.NameFields.{nameFits}
 use borrow.Author.Needs.{needs}
 use Rattle.read_messages.proofs.name_follows.Statement.{statement}
 use Rattle.read_messages.proofs.name_follows.Tie as tie

@@ -1,21 +1,16 @@
 -- `read_messages::pass_names` meets its contract. Assumes nothing.
 use mathlib.Core.Path.{_≡_, refl, _∙_, sym, ap, subst}
-use mathlib.Core.Bool.{true}
-use Prim.Native.Nat.{ℕ, _+_, _-_, _*_, _/_, _<_}
+use Prim.Native.Nat.{ℕ, _+_, _-_, _<_}
 use native.Mathlib.Omega.{arith}
 use denote.Ref.{now}
 use lib.ListN.{drop}
 use borrow.Author.Tests.{not-true, not-false}
-use Rattle.numbers.specs.Bytes.{Bytes}
 use Rattle.numbers.proofs.Bools.{yes-no}
 use Rattle.slots.specs.declared.Span.{Span}
-use Rattle.slots.specs.Tuples.{tupleSize, tuplesAt, rowAt, Within}
-use Rattle.fields.specs.Fields.{fieldHead, sizeIn}
-use Rattle.messages.specs.Messages.{nameStands, tuplesIn, namesWithin, afterNames}
+use Rattle.fields.specs.Fields.{fieldHead}
+use Rattle.name_fields.proofs.NameAt.{field-nothing, found}
+use Rattle.messages.specs.Messages.{nameTag, namesWithin, afterNames}
 use Rattle.messages.proofs.NameFields.{names-stop, after-stop}
-use Rattle.read_messages.specs.FirstPass.{fieldIn}
-use Rattle.read_messages.specs.declared.NameField.the-variants.{Tuples}
-use Rattle.read_messages.proofs.AtCursor.{tuples-at, name-long, name-whole, field-tuples, field-nothing}
 use Rattle.read_messages.proofs.FirstPassNames.{Passing, passing-first, passing-end, passing-stops, passing-on}
 use borrow.Author.Needs.{needs}
 use Rattle.read_messages.proofs.pass_names.Statement.{statement}
@@ -26,27 +21,6 @@ Inv-loop message most last₀ names₀ at₀ last names at = Passing message at�
 
 abbrev μ-loop : tie.MeasureT-loop
 μ-loop message most last₀ names₀ at₀ last names at = most - names
-
--- a name's field of n tuples was found at p: where the tuples stand, and where the field ends
-record Found (s : Bytes) (p n : ℕ) : Type 0 where
-  stood : nameStands (drop p s) ≡ true
-  within : Within s (record { at = p + fieldHead; count = n })
-  is : rowAt s (record { at = p + fieldHead; count = n }) ≡ tuplesIn (drop p s)
-  end : p + fieldHead + tupleSize * n ≡ p + (fieldHead + sizeIn (drop p s))
-
-found : (s : Bytes) (p n : ℕ) → fieldIn (drop p s) ≡ Tuples n → Found s p n
-found s p n e =
-    let t = drop p s in
-    let f = field-tuples t n e in
-    let w = name-whole t (f .0) in
-    let l = name-long s p (f .0) in
-    let q : tupleSize * n ≡ sizeIn t = ap (λ (k : ℕ). tupleSize * k) (sym (f .1)) ∙ w in
-    record {
-      stood = f .0;
-      within = omega arith;
-      is = ap (tuplesAt s (p + fieldHead)) (sym (f .1)) ∙ tuples-at s p (sizeIn t) refl;
-      end = omega arith;
-    }
 
 loop-holds : tie.Need-loop-holds Inv-loop μ-loop
 loop-holds c =
@@ -70,7 +44,7 @@ add-at c =
     let field : tie.After-name-field Inv-loop μ-loop = search needs in
     let here : tie.At-loop Inv-loop μ-loop = search needs in
     let start : tie.Start Inv-loop μ-loop = search needs in
-    let f = found (now (start .args .message)) (here .loop .at) (told .n .given .0 .0) (sym (field .name-field .ensures) ∙ told .n .given .1) in
+    let f = found nameTag (now (start .args .message)) (here .loop .at) (told .n .given .0 .0) (sym (field .name-field .ensures) ∙ told .n .given .1) in
     omega (arith, f .within)
 
 name-follows-requires : tie.Need-name-follows-requires Inv-loop μ-loop
@@ -79,7 +53,7 @@ name-follows-requires c κs =
     let field : tie.After-name-field Inv-loop μ-loop = search needs in
     let here : tie.At-loop Inv-loop μ-loop = search needs in
     let start : tie.Start Inv-loop μ-loop = search needs in
-    let f = found (now (start .args .message)) (here .loop .at) (told .n .given .0 .0) (sym (field .name-field .ensures) ∙ told .n .given .1) in
+    let f = found nameTag (now (start .args .message)) (here .loop .at) (told .n .given .0 .0) (sym (field .name-field .ensures) ∙ told .n .given .1) in
     (here .loop .inv .room, here .loop .inv .begins, f .within)
 
 mul-at : tie.Need-mul-at Inv-loop μ-loop
@@ -88,7 +62,7 @@ mul-at c =
     let field : tie.After-name-field Inv-loop μ-loop = search needs in
     let here : tie.At-loop Inv-loop μ-loop = search needs in
     let start : tie.Start Inv-loop μ-loop = search needs in
-    let f = found (now (start .args .message)) (here .loop .at) (told .n .given .0 .0) (sym (field .name-field .ensures) ∙ told .n .given .1) in
+    let f = found nameTag (now (start .args .message)) (here .loop .at) (told .n .given .0 .0) (sym (field .name-field .ensures) ∙ told .n .given .1) in
     omega (arith, f .within)
 
 add-at-2 : tie.Need-add-at-2 Inv-loop μ-loop
@@ -97,7 +71,7 @@ add-at-2 c =
     let field : tie.After-name-field Inv-loop μ-loop = search needs in
     let here : tie.At-loop Inv-loop μ-loop = search needs in
     let start : tie.Start Inv-loop μ-loop = search needs in
-    let f = found (now (start .args .message)) (here .loop .at) (told .n .given .0 .0) (sym (field .name-field .ensures) ∙ told .n .given .1) in
+    let f = found nameTag (now (start .args .message)) (here .loop .at) (told .n .given .0 .0) (sym (field .name-field .ensures) ∙ told .n .given .1) in
     omega (arith, f .within)
 
 add-names : tie.Need-add-names Inv-loop μ-loop
@@ -119,7 +93,7 @@ loop-again c =
     let n = told .n .given .0 .0 in
     let k = here .loop .names in
     let m = start .args .most in
-    let f = found s p n (sym (field .name-field .ensures) ∙ told .n .given .1) in
+    let f = found nameTag s p n (sym (field .name-field .ensures) ∙ told .n .given .1) in
     let a : Span = record { at = p + fieldHead; count = n } in
     let h : k < m = omega arith in
     let g = sym (above .name-follows .ensures) ∙ not-false (above .name-follows .result) (else2 .if2 .left) in
@@ -143,7 +117,7 @@ returns-2 c =
     let field : tie.After-name-field Inv-loop μ-loop = search needs in
     let t = drop (here .loop .at) (now (start .args .message)) in
     let m = start .args .most - here .loop .names in
-    let e = field-nothing t (sym (field .name-field .ensures) ∙ c .enum-told .given .1) in
+    let e = field-nothing nameTag t (sym (field .name-field .ensures) ∙ c .enum-told .given .1) in
     let w = passing-end (here .loop .inv) (names-stop t e m) (after-stop t e m) in
     (w .0, λ e. (w .1, w .2, w .3))
 
@@ -156,7 +130,7 @@ returns-3 c =
     let start : tie.Start Inv-loop μ-loop = search needs in
     let p = here .loop .at in
     let n = told .n .given .0 .0 in
-    let f = found (now (start .args .message)) p n (sym (field .name-field .ensures) ∙ told .n .given .1) in
+    let f = found nameTag (now (start .args .message)) p n (sym (field .name-field .ensures) ∙ told .n .given .1) in
     let h : here .loop .names < start .args .most = omega arith in
     let g = sym (above .name-follows .ensures) ∙ not-true (above .name-follows .result) (c .if2 .taken) in
     (passing-stops (here .loop .inv) h (f .stood) (record { at = p + fieldHead; count = n }) (f .is) g, λ q. yes-no q refl)

@@ -3,7 +3,8 @@ use mathlib.Core.Path.{sym, subst}
 use Prim.Native.Nat.{ℕ, _+_, _-_, _<_}
 use native.Mathlib.Omega.{arith}
 use denote.Ref.{now}
-use Rattle.read_messages.proofs.AtCursor.{name-long}
+use Rattle.name_fields.proofs.NameAt.{name-long}
+use Rattle.messages.specs.Messages.{nameTag}
 use Rattle.read_messages.proofs.SecondPassSlots.{Placing, placing-first, placing-stands, placing-few, placing-on, placing-end}
 use borrow.Author.Needs.{needs}
 use Rattle.read_messages.proofs.write_each.Statement.{statement}
@@ -32,7 +33,7 @@ after-field-requires : tie.Need-after-field-requires Inv-loop μ-loop
 after-field-requires c κs =
     let start : tie.Start Inv-loop μ-loop = search needs in
     let at-loop : tie.At-loop Inv-loop μ-loop = search needs in
-    let h : at-loop .loop .i < start .args .n = omega arith in name-long (now (start .args .message)) (at-loop .loop .at) (placing-stands (at-loop .loop .inv) h)
+    let h : at-loop .loop .i < start .args .n = omega arith in name-long nameTag (now (start .args .message)) (at-loop .loop .at) (placing-stands (at-loop .loop .inv) h)
 
 add-i : tie.Need-add-i Inv-loop μ-loop
 add-i c = omega arith

@@ -10,7 +10,9 @@ use Rattle.slots.specs.Slots.{slotSize}
 use Rattle.pages.specs.Pages.{maxSlots, namesOf}
 use Rattle.pages.proofs.RoundTrip.{laid}
 use Rattle.fields.specs.Fields.{fieldHead}
-use Rattle.write_messages.proofs.NamesIntoFields.{fieldsWith, field-size, size-next, size-end}
+use Rattle.name_fields.proofs.NameAt.{field-size}
+use Rattle.messages.specs.Messages.{nameTag}
+use Rattle.write_messages.proofs.NamesIntoFields.{fieldsWith, size-next, size-end}
 use borrow.Author.Needs.{needs}
 use Rattle.write_messages.proofs.names_size.Statement.{statement}
 use Rattle.write_messages.proofs.names_size.Tie as tie
@@ -57,7 +59,7 @@ loop-again c =
     let name = after-span-of .span-of in
     let h : k < length s / slotSize = omega arith in
     let e = size-next s k h (rowAt s (name .result)) (name .ensures .1) in
-    let l = field-size s (name .result) in
+    let l = field-size nameTag s (name .result) in
     (v .0, v .1, omega arith, omega arith, omega arith)
 
 returns : tie.Need-returns Inv-loop μ-loop

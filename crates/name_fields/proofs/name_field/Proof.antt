@@ -1,4 +1,4 @@
--- `read_messages::name_field` meets its contract. Assumes nothing.
+-- `name_fields::name_field` meets its contract. Assumes nothing.
 use mathlib.Core.Path.{_≡_, _∙_, sym, ap}
 use mathlib.Core.Bool.{Bool, true, false, cond, _&&_}
 use Prim.Native.Nat.{ℕ, _+_, _/_, _%_, _<_}
@@ -10,13 +10,13 @@ use borrow.Author.Tests.{lt-leb, eq-eqb, ne-eqb, not-true, not-false}
 use Rattle.numbers.specs.Bytes.{at16}
 use Rattle.slots.specs.Tuples.{tupleSize}
 use Rattle.fields.specs.Fields.{fieldHead, sizeIn, stands}
-use Rattle.messages.specs.Messages.{nameTag, nameStands}
-use Rattle.read_messages.specs.declared.NameField.{NameField}
-use Rattle.read_messages.specs.declared.NameField.the-variants.{Tuples, Nothing}
-use Rattle.read_messages.proofs.AtCursor.{name-at}
+use Rattle.name_fields.specs.NameFields.{nameStandsAs}
+use Rattle.name_fields.specs.declared.NameField.{NameField}
+use Rattle.name_fields.specs.declared.NameField.the-variants.{Tuples, Nothing}
+use Rattle.name_fields.proofs.NameAt.{name-at}
 use borrow.Author.Needs.{needs}
-use Rattle.read_messages.proofs.name_field.Statement.{statement}
-use Rattle.read_messages.proofs.name_field.Tie as tie
+use Rattle.name_fields.proofs.name_field.Statement.{statement}
+use Rattle.name_fields.proofs.name_field.Tie as tie
 
 -- no field stands there
 none : {b : Bool} (x : NameField) → b ≡ false → Nothing ≡ cond b x Nothing
@@ -28,11 +28,11 @@ sub-if1 c = search needs
 returns : tie.Need-returns
 returns c =
     let start : tie.Start = search needs in
-    let s = now (start .args .message) in
+    let s = now (start .args .bytes) in
     let p = start .args .cursor .at in
     let end = p + (fieldHead + at16 s (p + 1)) in
     let l : length s < end = omega arith in
-    none _ (name-at s p ∙ simp (lt-leb end (length s) l))
+    none _ (name-at (start .args .tag) s p ∙ simp (lt-leb end (length s) l))
 
 size-at-requires : tie.Need-size-at-requires
 size-at-requires c κs = search needs
@@ -45,8 +45,8 @@ returns-2 c =
     let start : tie.Start = search needs in
     let z : tie.After-size-at = search needs in
     let f : tie.After-field-stands = search needs in
-    let t = drop (start .args .cursor .at) (now (start .args .message)) in
-    let e = ap (λ (n : ℕ). stands nameTag n t) (sym (z .size-at .ensures .0)) in
+    let t = drop (start .args .cursor .at) (now (start .args .bytes)) in
+    let e = ap (λ (n : ℕ). stands (start .args .tag) n t) (sym (z .size-at .ensures .0)) in
     let h = e ∙ sym (f .field-stands .ensures) ∙ not-true (f .field-stands .result) (c .if2 .taken) in
     none _ (ap (λ (b : Bool). b && eqb (sizeIn t % tupleSize) 0) h)
 
@@ -61,9 +61,9 @@ returns-3 c =
     let z : tie.After-size-at = search needs in
     let f : tie.After-field-stands = search needs in
     let else2 : tie.Else2 = search needs in
-    let t = drop (start .args .cursor .at) (now (start .args .message)) in
+    let t = drop (start .args .cursor .at) (now (start .args .bytes)) in
     let e = z .size-at .ensures .0 in
-    let h = ap (λ (n : ℕ). stands nameTag n t) (sym e) ∙ sym (f .field-stands .ensures) ∙ not-false (f .field-stands .result) (else2 .if2 .left) in
+    let h = ap (λ (n : ℕ). stands (start .args .tag) n t) (sym e) ∙ sym (f .field-stands .ensures) ∙ not-false (f .field-stands .result) (else2 .if2 .left) in
     let part = ne-eqb (sizeIn t % tupleSize) 0 (λ q. omega (arith, e, c .if3 .taken)) in
     none _ (λ i. h i && part i)
 
@@ -73,11 +73,11 @@ returns-4 c =
     let z : tie.After-size-at = search needs in
     let f : tie.After-field-stands = search needs in
     let else2 : tie.Else2 = search needs in
-    let t = drop (start .args .cursor .at) (now (start .args .message)) in
+    let t = drop (start .args .cursor .at) (now (start .args .bytes)) in
     let e = z .size-at .ensures .0 in
-    let h = ap (λ (n : ℕ). stands nameTag n t) (sym e) ∙ sym (f .field-stands .ensures) ∙ not-false (f .field-stands .result) (else2 .if2 .left) in
+    let h = ap (λ (n : ℕ). stands (start .args .tag) n t) (sym e) ∙ sym (f .field-stands .ensures) ∙ not-false (f .field-stands .result) (else2 .if2 .left) in
     let whole = eq-eqb (sizeIn t % tupleSize) 0 (omega (arith, e, c .if3 .left)) in
-    let stood : nameStands t ≡ true = λ i. h i && whole i in
+    let stood : nameStandsAs (start .args .tag) t ≡ true = λ i. h i && whole i in
     ap (λ (n : ℕ). Tuples (n / tupleSize)) e ∙ sym (ap (λ (b : Bool). cond b (Tuples (sizeIn t / tupleSize)) Nothing) stood)
 
 pub name-field-spec : {M : Type 1} → statement M

@@ -1,4 +1,4 @@
--- `write_messages::write_name` meets its contract. Assumes nothing.
+-- `name_fields::write_name` meets its contract. Assumes nothing.
 use mathlib.Core.Path.{_≡_, refl, sym, _∙_, ap}
 use mathlib.Core.List.{_∷_, _++_}
 use Prim.Native.Nat.{ℕ, _*_}
@@ -10,11 +10,10 @@ use Rattle.slots.specs.Tuples.{tupleSize, rowAt, rowBytes}
 use Rattle.numbers.proofs.Put.{put-more}
 use Rattle.slots.proofs.TuplesInBytes.{length-tuplesAt}
 use Rattle.slots.proofs.WrittenSlots.{row-length}
-use Rattle.messages.specs.Messages.{nameTag}
-use Rattle.write_messages.proofs.NamesIntoFields.{field-size}
+use Rattle.name_fields.proofs.NameAt.{field-size}
 use borrow.Author.Needs.{needs}
-use Rattle.write_messages.proofs.write_name.Statement.{statement}
-use Rattle.write_messages.proofs.write_name.Tie as tie
+use Rattle.name_fields.proofs.write_name.Statement.{statement}
+use Rattle.name_fields.proofs.write_name.Tie as tie
 
 mul-size : tie.Need-mul-size
 mul-size c = search needs
@@ -32,7 +31,7 @@ copy-row-requires : tie.Need-copy-row-requires
 copy-row-requires c κs =
     let after-write-field-head : tie.After-write-field-head = search needs in
     let start : tie.Start = search needs in
-    let l = field-size (now (start .args .s)) (start .args .name) in
+    let l = field-size (start .args .tag) (now (start .args .s)) (start .args .name) in
     let k = after-write-field-head .write-field-head .kept .0 in
     (start .pre .0 .1, omega arith, start .pre .0 .0)
 
@@ -55,12 +54,13 @@ returns c =
     let s = now (start .args .s) in
     let x = start .args .name in
     let a = rowAt s x in
-    let l = field-size s x in
+    let tag = start .args .tag in
+    let l = field-size tag s x in
     let size = tupleSize * x .count in
     let e : size ≡ length (rowBytes a) = sym (row-length a ∙ ap (λ (n : ℕ). tupleSize * n) (length-tuplesAt s (x .at) (x .count))) in
     let head = after-write-field-head .write-field-head .ensures in
-    let written = put-more o p (omega arith) (nameTag ∷ bytes16 size) (rowBytes a) head refl (after-copy-row .copy-row .ensures) in
-    (omega arith, written ∙ ap (λ (n : ℕ). put o p ((nameTag ∷ bytes16 n) ++ rowBytes a)) e)
+    let written = put-more o p (omega arith) (tag ∷ bytes16 size) (rowBytes a) head refl (after-copy-row .copy-row .ensures) in
+    (omega arith, written ∙ ap (λ (n : ℕ). put o p ((tag ∷ bytes16 n) ++ rowBytes a)) e)
 
 pub write-name-spec : {M : Type 1} → statement M
 write-name-spec =

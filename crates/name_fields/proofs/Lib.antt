@@ -1,0 +1,4 @@
+pub mod NameInverse
+pub mod LongestNames
+pub mod NameAt
+pub mod Settled
