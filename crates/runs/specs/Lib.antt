@@ -1,0 +1,3 @@
+pub mod Runs
+pub mod Beside
+pub mod Laws
