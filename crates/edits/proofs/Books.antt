@@ -195,7 +195,7 @@ pub record Removes (page slot : Bytes) (room : ℕ) : Type 0 where
   pub outcome : removeOutcome page slot room ≡ accept (pieces (without (nameOf slot) (slotsOf page)))
 
 -- past all tests, what is written
-written : (tests : List Test) (l : List Bytes) (room n : ℕ) → outcome tests l room .answer ≡ Accepted n → Passed tests × (outcome tests l room ≡ accept l)
+pub written : (tests : List Test) (l : List Bytes) (room n : ℕ) → outcome tests l room .answer ≡ Accepted n → Passed tests × (outcome tests l room ≡ accept l)
 written tests l room n e =
     let a = accepted-passes (write l room) n tests e in
     (a .0, a .1 ∙ write-accepted l room n (sym (ap (λ (o : Outcome). o .answer) (a .1)) ∙ e))

@@ -1,0 +1,14 @@
+pub mod Glue
+pub mod RunSlots
+pub mod GroupTests
+pub mod LineBytes
+pub mod GroupFields
+pub mod GroupBytes
+pub mod GroupAt
+pub mod FormInverse
+pub mod FormPages
+pub mod FormOutcomes
+pub mod FormEdits
+pub mod FormCalls
+pub mod FormSizes
+pub mod Laws

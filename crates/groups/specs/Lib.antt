@@ -1,0 +1,4 @@
+pub mod Groups
+pub mod Forms
+pub mod Calls
+pub mod Laws
