@@ -1,0 +1,9 @@
+pub mod FirstRun
+pub mod SizeBySlot
+pub mod PageNames
+pub mod PiecesFrom
+pub mod LinesWritten
+pub mod GroupsWritten
+pub mod SlotsWritten
+pub mod Outcomes
+pub mod Settled
