@@ -1,0 +1,2 @@
+pub mod ChangedBytes
+pub mod Settled

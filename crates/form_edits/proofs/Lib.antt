@@ -1,0 +1,13 @@
+pub mod Rows
+pub mod Longest
+pub mod Zipper
+pub mod EditedGroups
+pub mod Results
+pub mod LaidBlocks
+pub mod ChangeBytes
+pub mod MetNames
+pub mod Chosen
+pub mod Outcomes
+pub mod NamesBeside
+pub mod Asked
+pub mod Settled
