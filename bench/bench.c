@@ -32,7 +32,8 @@ typedef struct {
 } Family;
 
 static const Family families[] = {
-    {CHECK_PAGE, CHECK_EPOCHS, "names", "lines", {16, 64, 256}, true},
+    {CHECK_PAGE, GROUP_PAGE, "names", "lines", {16, 64, 256}, true},
+    {GROUP_PAGE, CHECK_EPOCHS, "book", "lines", {16, 64, 256}, true},
     {CHECK_EPOCHS, OPERATIONS, "table", "entries", {8, 16, 32}, false},
 };
 
@@ -53,9 +54,19 @@ static const char *const operation_names[OPERATIONS] = {
     [READ_MESSAGE] = "read message",
     [FROM_OLD] = "from old",
     [TO_OLD] = "to old",
+    [GROUP_PAGE] = "group",
+    [UNGROUP_FORM] = "ungroup",
+    [GROUP_INSERT] = "group insert",
+    [GROUP_REMOVE] = "group remove",
     [CHECK_EPOCHS] = "check epochs",
     [NEXT_STEP] = "next step",
     [ADD_EPOCH] = "add epoch",
+};
+
+static const char *const book_names[SHAPES] = {
+    [FRESH] = "fresh",
+    [RENAMED] = "renamed",
+    [ADDED_TO] = "added to",
 };
 
 static const char *shape_name(Operation operation, Shape shape)
@@ -63,6 +74,8 @@ static const char *shape_name(Operation operation, Shape shape)
     static char text[64];
     if (operation >= CHECK_EPOCHS)
         return shape == CHAIN ? "chain" : "star";
+    if (operation >= GROUP_PAGE)
+        return book_names[shape];
     if (shape == SHALLOW)
         return "1 tuple";
     Depths depths = depths_of(operation, shape);
@@ -171,6 +184,24 @@ static void print_family(const Family *family)
     printf("\n");
 }
 
+/* The bytes of a book of 256 lines as a page and as a form, and of the message of a rename of its names. */
+static void print_bytes(void)
+{
+    static Input input;
+    static Output output;
+    printf("| book of %d lines | page, bytes | form | message of a rename of its names |\n|---|---|---|---|\n",
+           SLOT_LIMIT);
+    for (Shape shape = FRESH; shape < SHAPES; shape++) {
+        make_input(GROUP_PAGE, shape, SLOT_LIMIT, &input);
+        uint64_t form = library_calls[GROUP_PAGE](&input, &output);
+        clear_lines(&input.first);
+        uint64_t message = library_calls[WRITE_MESSAGE](&input, &output);
+        printf("| %s | %zu | %u | %u |\n", book_names[shape], input.first.length, kadalumbir_count_of(form),
+               kadalumbir_count_of(message));
+    }
+    printf("\n");
+}
+
 /* Gives how often a call takes longer than it may. */
 static size_t tell_above(const Family *family)
 {
@@ -220,6 +251,7 @@ int main(int argc, char **argv)
     time_all(&timed[0][0][0], rows * SIZES * SIDES);
     for (size_t i = 0; i < FAMILIES; i++)
         print_family(&families[i]);
+    print_bytes();
     for (size_t i = 0; i < FAMILIES; i++)
         too_much += tell_above(&families[i]);
     for (size_t i = 0; i < FAMILIES; i++) {

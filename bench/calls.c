@@ -73,6 +73,28 @@ static uint64_t call_to_old(const Input *in, Output *out)
     return kadalumbir_to_old(in->first.bytes, in->first.length, out->bytes, sizeof out->bytes);
 }
 
+static uint64_t call_group(const Input *in, Output *out)
+{
+    return kadalumbir_group(in->first.bytes, in->first.length, out->bytes, sizeof out->bytes);
+}
+
+static uint64_t call_ungroup(const Input *in, Output *out)
+{
+    return kadalumbir_ungroup(in->first.bytes, in->first.length, out->bytes, sizeof out->bytes);
+}
+
+static uint64_t call_group_insert(const Input *in, Output *out)
+{
+    return kadalumbir_group_insert(in->first.bytes, in->first.length, in->second.bytes, in->second.length, out->bytes,
+                                   sizeof out->bytes);
+}
+
+static uint64_t call_group_remove(const Input *in, Output *out)
+{
+    return kadalumbir_group_remove(in->first.bytes, in->first.length, in->second.bytes, in->second.length, out->bytes,
+                                   sizeof out->bytes);
+}
+
 static uint64_t call_check_epochs(const Input *in, Output *out)
 {
     (void)out;
@@ -105,6 +127,10 @@ const Call CALLS[OPERATIONS] = {
     [READ_MESSAGE] = call_read_message,
     [FROM_OLD] = call_from_old,
     [TO_OLD] = call_to_old,
+    [GROUP_PAGE] = call_group,
+    [UNGROUP_FORM] = call_ungroup,
+    [GROUP_INSERT] = call_group_insert,
+    [GROUP_REMOVE] = call_group_remove,
     [CHECK_EPOCHS] = call_check_epochs,
     [NEXT_STEP] = call_next_step,
     [ADD_EPOCH] = call_add_epoch,

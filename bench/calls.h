@@ -20,6 +20,10 @@ typedef enum {
     READ_MESSAGE,
     FROM_OLD,
     TO_OLD,
+    GROUP_PAGE,
+    UNGROUP_FORM,
+    GROUP_INSERT,
+    GROUP_REMOVE,
     CHECK_EPOCHS,
     NEXT_STEP,
     ADD_EPOCH,
@@ -36,8 +40,8 @@ typedef struct {
 } Part;
 
 typedef struct {
-    Part first;   /* the page, log, table, message or names */
-    Part second;  /* the slot or the log, where a call takes one beside the page */
+    Part first;   /* the page, log, table, message, form or names */
+    Part second;  /* the slot or the log, where a call takes one beside the page or form */
     size_t index; /* the gap, the current epoch or the parent */
 } Input;
 

@@ -1003,10 +1003,10 @@ static inline size_t most_names(uint8_t kind)
     return kind == KADALUMBIR_RENAME ? SLOTS : 1;
 }
 
-/* The depth of the name whose field stands between two places; 0 where none does. */
-static inline size_t field_depth(const uint8_t *field, const uint8_t *end)
+/* The depth of the name whose field, of this tag, stands between two places; 0 where none does. */
+static inline size_t field_depth(const uint8_t *field, const uint8_t *end, uint8_t tag)
 {
-    if (end - field < FIELD || field[0] != NAME_TAG)
+    if (end - field < FIELD || field[0] != tag)
         return 0;
     size_t length = load16(field + 1), depth = length / TUPLE;
     if (length > (size_t)(end - field) - FIELD || length % TUPLE != 0 || depth < 1 || depth > TUPLES)
@@ -1020,7 +1020,7 @@ static size_t count_names(const uint8_t *field, const uint8_t *end, size_t most)
     const uint8_t *before = NULL;
     size_t before_depth = 0, count = 0;
     while (field != end) {
-        size_t depth = field_depth(field, end);
+        size_t depth = field_depth(field, end, NAME_TAG);
         if (depth == 0 || count == most || compare_rows(before, before_depth, field + FIELD, depth) >= 0)
             return 0;
         before = field + FIELD;
@@ -1128,4 +1128,409 @@ uint64_t kadalumbir_write_message(uint8_t kind, uint16_t epoch_node, uint32_t ep
     if (kind == KADALUMBIR_INSERT)
         store32(put_field(field, LINE_TAG, 4), line);
     return accepted(length);
+}
+
+/* ---- forms: "the first name, a length and the line numbers in order"; "tag 6 a name, tag 7 a length of two bytes, tag 8
+ * the line numbers, four bytes each, group after group" */
+
+enum { FIRST_TAG = 6, LENGTH_TAG, LINES_TAG };
+
+/* Between a group's name and its line numbers stand eight bytes, read and written as one number: the field of the length,
+ * and tag and length of the field of the line numbers. */
+enum { SIZES = 8, LINE = 4, MOST_LINES = UINT16_MAX / LINE };
+
+static inline uint64_t sizes_of(size_t count)
+{
+    const uint64_t none = (uint64_t)LENGTH_TAG << 56 | (uint64_t)2 << 40 | (uint64_t)LINES_TAG << 16;
+    return none + ((uint64_t)count << 24) + LINE * count;
+}
+
+/* A group where it stands. Its names are the row, with the last offset raised by 0, by 1 and so on. */
+typedef struct {
+    const uint8_t *row; /* the first name */
+    size_t length;      /* its bytes */
+    size_t depth, count;
+} Group;
+
+static inline Group group_of(const uint8_t *row, size_t length, size_t count)
+{
+    Group group = {row, length, length / TUPLE, count};
+    return group;
+}
+
+/* A name alone, as a group of one. */
+static inline Group alone_in(const uint8_t *slot)
+{
+    Group group = {name_of(slot), depth_of(slot) * TUPLE, depth_of(slot), 1};
+    return group;
+}
+
+static inline const uint8_t *sizes_at(const Group *group)
+{
+    return group->row + group->length;
+}
+
+static inline const uint8_t *lines_at(const Group *group)
+{
+    return sizes_at(group) + SIZES;
+}
+
+static inline const uint8_t *end_of(const Group *group)
+{
+    return lines_at(group) + group->count * LINE;
+}
+
+static inline uint32_t last_offset(const Group *group)
+{
+    return load32(sizes_at(group) - 4) + (uint32_t)group->count - 1;
+}
+
+/* The bytes of a group, its line numbers apart. */
+static inline size_t head_bytes(size_t depth)
+{
+    return FIELD + depth * TUPLE + SIZES;
+}
+
+/* The group that begins at a place of a form that is checked. */
+static inline Group group_at(const uint8_t *field)
+{
+    size_t length = load16(field + 1);
+    return group_of(field + FIELD, length, load16(field + FIELD + length + FIELD));
+}
+
+/* Whether a group stands there, with all of its names, and where the next would: "malformed, has a length of 0". */
+static inline bool read_group(const uint8_t *field, const uint8_t *end, Group *group, const uint8_t **next)
+{
+    if (end - field < FIELD + SIZES)
+        return false;
+    group->row = field + FIELD;
+    group->length = load16(field + 1);
+    group->depth = field_depth(field, end - SIZES, FIRST_TAG);
+    if (group->depth == 0)
+        return false;
+    uint64_t sizes = load64(sizes_at(group));
+    group->count = (uint16_t)(sizes >> 24);
+    if (group->count - 1 >= MOST_LINES || sizes != sizes_of(group->count) ||
+        (size_t)(end - lines_at(group)) < group->count * LINE)
+        return false;
+    *next = end_of(group);
+    return last_offset(group) < INT32_MAX;
+}
+
+/* How a name stands to a group's last: not above it, the next, which would be of the group, or above that. */
+typedef enum { BELOW, NEXT, ABOVE } Step;
+
+static inline Step step_from(const Group *group, const uint8_t *row, size_t depth)
+{
+    size_t before = group->depth - 1;
+    int order = compare_rows(group->row, before, row, depth < before ? depth : before);
+    if (order != 0 || depth <= before)
+        return order < 0 ? ABOVE : BELOW;
+    const uint8_t *a = group->row + before * TUPLE, *b = row + before * TUPLE;
+    if (word64(a) != word64(b))
+        return key_of(a) < key_of(b) ? ABOVE : BELOW;
+    uint32_t last = last_offset(group), offset = offset_of(b);
+    if (depth > group->depth)
+        return rank_of(last) <= rank_of(offset) ? ABOVE : BELOW;
+    return last + 1 == offset ? NEXT : last < offset ? ABOVE : BELOW;
+}
+
+/* What a form's check finds: how many slots it has, and for a slot's name the last group that begins with it or below it,
+ * and the group before that; NULL where there is none. */
+typedef struct {
+    size_t count;
+    const uint8_t *before, *here;
+} Found;
+
+/* "15 for a form that is malformed, has a length of 0 or isn't longest, then 2, then 11 for more than 256 slots". The slot
+ * may be missing. */
+static inline kadalumbir_answer check_form(const uint8_t *form, size_t form_len, const uint8_t *slot, Found *found)
+{
+    Group before = group_of(NULL, 0, 0), group;
+    bool rise = true;
+    found->count = 0;
+    found->before = found->here = NULL;
+    const uint8_t *next = form, *const end = form + form_len;
+    while (next != end) {
+        const uint8_t *field = next;
+        if (!read_group(field, end, &group, &next))
+            return KADALUMBIR_MALFORMED;
+        Step step = field == form ? ABOVE : step_from(&before, group.row, group.depth);
+        if (step == NEXT)
+            return KADALUMBIR_MALFORMED;
+        rise = rise && step == ABOVE;
+        if (slot != NULL && compare_rows(group.row, group.depth, name_of(slot), depth_of(slot)) <= 0) {
+            found->before = found->here;
+            found->here = field;
+        } else {
+            slot = NULL;
+        }
+        found->count += group.count;
+        before = group;
+    }
+    if (!rise)
+        return KADALUMBIR_NOT_RISING;
+    return found->count > SLOTS ? KADALUMBIR_FULL : KADALUMBIR_ACCEPTED;
+}
+
+/* "then 1 (slot)" */
+static kadalumbir_answer check_form_edit(const uint8_t *form, size_t form_len, const uint8_t *slot, size_t slot_len,
+                                         Found *found)
+{
+    bool good = slot_len == SLOT && is_slot(TUPLES, slot);
+    kadalumbir_answer answer = check_form(form, form_len, good ? slot : NULL, found);
+    return answer == KADALUMBIR_ACCEPTED && !good ? KADALUMBIR_BAD_LAYOUT : answer;
+}
+
+/* Few tuples cost less one by one than a call of memcpy. */
+static inline void copy_tuples(uint8_t *out, const uint8_t *row, size_t length)
+{
+    for (size_t at = 0; at < length; at += TUPLE)
+        memcpy(out + at, row + at, TUPLE);
+}
+
+/* Writes what stands before a group's line numbers, with the last offset raised; gives where they go. */
+static inline uint8_t *put_group(uint8_t *field, const Group *group, size_t raised, size_t count)
+{
+    uint8_t *row = put_field(field, FIRST_TAG, group->length), *sizes = row + group->length;
+    copy_tuples(row, group->row, group->length);
+    store32(sizes - 4, load32(sizes - 4) + (uint32_t)raised);
+    store64(sizes, sizes_of(count));
+    return sizes + SIZES;
+}
+
+/* "strictly rising names", and the bytes of the form of a page whose layout is checked. */
+static APART bool measure_form(const uint8_t *page, size_t page_len, size_t *length)
+{
+    *length = page_len / SLOT * LINE + (page_len > 0 ? head_bytes(depth_of(page)) : 0);
+    for (size_t at = SLOT; at < page_len; at += SLOT) {
+        const uint8_t *slot = page + at;
+        Group before = alone_in(slot - SLOT);
+        Step step = step_from(&before, name_of(slot), depth_of(slot));
+        if (step == BELOW)
+            return false;
+        if (step == ABOVE)
+            *length += head_bytes(depth_of(slot));
+    }
+    return true;
+}
+
+/* Whether a slot of a page is of the group of the one before it. */
+static inline bool goes_on(const uint8_t *before, const uint8_t *slot)
+{
+    size_t depth = depth_of(slot);
+    const uint8_t *a = name_of(before) + (depth - 1) * TUPLE, *b = name_of(slot) + (depth - 1) * TUPLE;
+    return depth_of(before) == depth && offset_of(a) + 1 == offset_of(b) && word64(a) == word64(b) &&
+           compare_rows(name_of(before), depth - 1, name_of(slot), depth - 1) == 0;
+}
+
+/* "Groups are as long as possible" */
+static void write_form(const uint8_t *page, size_t page_len, uint8_t *out)
+{
+    for (size_t at = 0; at < page_len;) {
+        const Group first = alone_in(page + at);
+        uint8_t *lines = out + head_bytes(first.depth);
+        size_t count = 0;
+        do {
+            memcpy(lines + count * LINE, page + at + 4, LINE);
+            count++;
+            at += SLOT;
+        } while (at < page_len && goes_on(page + at - SLOT, page + at));
+        put_group(out, &first, 0, count);
+        out = lines + count * LINE;
+    }
+}
+
+uint64_t kadalumbir_group(const uint8_t *page, size_t page_len, uint8_t *out, size_t out_len)
+{
+    size_t length;
+    if (!keeps_layout(page, page_len))
+        return refused(KADALUMBIR_BAD_LAYOUT);
+    if (!measure_form(page, page_len, &length))
+        return refused(KADALUMBIR_NOT_RISING);
+    if (out_len < length)
+        return refused(KADALUMBIR_SHORT);
+    write_form(page, page_len, out);
+    return accepted(length);
+}
+
+/* A group's slots, one after the other: to clear a whole slot costs less than to clear its rest. */
+static inline void write_group(const Group *group, uint8_t *slot)
+{
+    uint32_t offset = load32(sizes_at(group) - 4);
+    for (size_t i = 0; i < group->count; i++, slot += SLOT) {
+        memset(slot, 0, SLOT);
+        put_head(slot, group->depth, load32(lines_at(group) + i * LINE));
+        copy_tuples(slot + HEAD, group->row, group->length);
+        store32(slot + HEAD + group->length - 4, offset + (uint32_t)i);
+    }
+}
+
+uint64_t kadalumbir_ungroup(const uint8_t *form, size_t form_len, uint8_t *out, size_t out_len)
+{
+    Found found;
+    kadalumbir_answer answer = check_form(form, form_len, NULL, &found);
+    if (answer != KADALUMBIR_ACCEPTED)
+        return refused(answer);
+    if (out_len < found.count * SLOT)
+        return refused(KADALUMBIR_SHORT);
+    for (size_t at = 0; at < form_len;) {
+        Group group = group_at(form + at);
+        write_group(&group, out);
+        out += group.count * SLOT;
+        at = (size_t)(end_of(&group) - form);
+    }
+    return accepted(found.count);
+}
+
+/* Where a name that is not below a group's first stands in the group. */
+static Place find_in_group(const Group *group, const uint8_t *slot)
+{
+    size_t before = group->depth - 1, depth = depth_of(slot);
+    const uint8_t *a = group->row + before * TUPLE, *b = name_of(slot) + before * TUPLE;
+    Place place = {group->count, false};
+    if (depth <= before || compare_rows(group->row, before, name_of(slot), before) != 0 || word64(a) != word64(b))
+        return place;
+    uint32_t further = offset_of(b) - offset_of(a);
+    if (further < group->count) {
+        place.present = depth == group->depth;
+        place.below = further + !place.present;
+    }
+    return place;
+}
+
+/* "splitting": a name between two of a group. */
+static uint64_t insert_inside(const uint8_t *form, size_t form_len, const Group *here, size_t below, const uint8_t *slot,
+                              uint8_t *out, size_t out_len)
+{
+    const Group alone = alone_in(slot);
+    size_t cut = (size_t)(lines_at(here) - form) + below * LINE;
+    size_t length = form_len + head_bytes(alone.depth) + LINE + head_bytes(here->depth);
+    if (out_len < length)
+        return refused(KADALUMBIR_SHORT);
+    copy(out, 0, form, 0, cut);
+    store64(out + (sizes_at(here) - form), sizes_of(below));
+    uint8_t *lines = put_group(out + cut, &alone, 0, 1);
+    memcpy(lines, slot + 4, LINE);
+    lines = put_group(lines + LINE, here, below, here->count - below);
+    copy(lines, 0, form, cut, form_len);
+    return accepted(length);
+}
+
+/* "joining": a name behind a group, or before all of them, may be the next of that group, and the next group's first the
+ * next of it. */
+static uint64_t insert_between(const uint8_t *form, size_t form_len, const Group *here, const uint8_t *slot, uint8_t *out,
+                               size_t out_len)
+{
+    const Group alone = alone_in(slot);
+    size_t at = here != NULL ? (size_t)(end_of(here) - form) : 0, rest = at, count = 1;
+    size_t length = form_len + LINE + head_bytes(alone.depth);
+    bool follows = here != NULL && step_from(here, alone.row, alone.depth) == NEXT;
+    if (follows) {
+        count += here->count;
+        length -= head_bytes(alone.depth);
+    }
+    if (at < form_len) {
+        Group next = group_at(form + at);
+        if (step_from(&alone, next.row, next.depth) == NEXT) {
+            count += next.count;
+            length -= head_bytes(next.depth);
+            rest = (size_t)(lines_at(&next) - form);
+        }
+    }
+    if (out_len < length)
+        return refused(KADALUMBIR_SHORT);
+    uint8_t *line = out + at;
+    copy(out, 0, form, 0, at);
+    if (follows)
+        store64(out + (sizes_at(here) - form), sizes_of(count));
+    else
+        line = put_group(line, &alone, 0, count);
+    memcpy(line, slot + 4, LINE);
+    copy(line, LINE, form, rest, form_len);
+    return accepted(length);
+}
+
+/* "Insert and remove should also work on the grouped form, splitting and joining, and agree with the page." */
+uint64_t kadalumbir_group_insert(const uint8_t *form, size_t form_len, const uint8_t *slot, size_t slot_len, uint8_t *out,
+                                 size_t out_len)
+{
+    Found found;
+    Group here = group_of(NULL, 0, 0);
+    Place place = {0, false};
+    kadalumbir_answer answer = check_form_edit(form, form_len, slot, slot_len, &found);
+    if (answer != KADALUMBIR_ACCEPTED)
+        return refused(answer);
+    if (found.here != NULL) {
+        here = group_at(found.here);
+        place = find_in_group(&here, slot);
+    }
+    if (place.present)
+        return refused(KADALUMBIR_PRESENT);
+    if (found.count == SLOTS)
+        return refused(KADALUMBIR_FULL);
+    if (place.below < here.count)
+        return insert_inside(form, form_len, &here, place.below, slot, out, out_len);
+    return insert_between(form, form_len, found.here != NULL ? &here : NULL, slot, out, out_len);
+}
+
+/* Without the only slot of its group, the groups at both sides may be one. */
+static uint64_t remove_group(const uint8_t *form, size_t form_len, const Found *found, const Group *here, uint8_t *out,
+                             size_t out_len)
+{
+    size_t begin = (size_t)(found->here - form), rest = (size_t)(end_of(here) - form), count = 0;
+    Group before = group_of(NULL, 0, 0);
+    if (found->before != NULL && rest < form_len) {
+        Group next = group_at(form + rest);
+        before = group_at(found->before);
+        if (step_from(&before, next.row, next.depth) == NEXT) {
+            count = before.count + next.count;
+            rest = (size_t)(lines_at(&next) - form);
+        }
+    }
+    size_t length = begin + form_len - rest;
+    if (out_len < length)
+        return refused(KADALUMBIR_SHORT);
+    copy(out, 0, form, 0, begin);
+    if (count > 0)
+        store64(out + (sizes_at(&before) - form), sizes_of(count));
+    copy(out, begin, form, rest, form_len);
+    return accepted(length);
+}
+
+/* Without one of several slots a group begins with the next name, or ends earlier, or becomes two. */
+static uint64_t remove_line(const uint8_t *form, size_t form_len, const Group *here, size_t below, uint8_t *out,
+                            size_t out_len)
+{
+    size_t cut = (size_t)(lines_at(here) - form) + below * LINE, above = here->count - 1 - below;
+    size_t length = form_len - LINE + (below > 0 && above > 0 ? head_bytes(here->depth) : 0);
+    if (out_len < length)
+        return refused(KADALUMBIR_SHORT);
+    uint8_t *lines = out + cut, *sizes = out + (sizes_at(here) - form);
+    copy(out, 0, form, 0, cut);
+    store64(sizes, sizes_of(below > 0 ? below : above));
+    if (below == 0)
+        store32(sizes - 4, load32(sizes - 4) + 1);
+    else if (above > 0)
+        lines = put_group(lines, here, below + 1, above);
+    copy(lines, 0, form, cut + LINE, form_len);
+    return accepted(length);
+}
+
+uint64_t kadalumbir_group_remove(const uint8_t *form, size_t form_len, const uint8_t *slot, size_t slot_len, uint8_t *out,
+                                 size_t out_len)
+{
+    Found found;
+    kadalumbir_answer answer = check_form_edit(form, form_len, slot, slot_len, &found);
+    if (answer != KADALUMBIR_ACCEPTED)
+        return refused(answer);
+    if (found.here == NULL)
+        return refused(KADALUMBIR_ABSENT);
+    Group here = group_at(found.here);
+    Place place = find_in_group(&here, slot);
+    if (!place.present)
+        return refused(KADALUMBIR_ABSENT);
+    if (here.count == 1)
+        return remove_group(form, form_len, &found, &here, out, out_len);
+    return remove_line(form, form_len, &here, place.below, out, out_len);
 }

@@ -18,5 +18,9 @@
 #define kadalumbir_read_message in_place_read_message
 #define kadalumbir_from_old in_place_from_old
 #define kadalumbir_to_old in_place_to_old
+#define kadalumbir_group in_place_group
+#define kadalumbir_ungroup in_place_ungroup
+#define kadalumbir_group_insert in_place_group_insert
+#define kadalumbir_group_remove in_place_group_remove
 
 #endif

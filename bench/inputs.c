@@ -25,6 +25,11 @@ size_t shapes_of(Operation operation)
     return operation == FROM_OLD || operation == TO_OLD || is_edited(operation) ? DEEP + 1 : SHAPES;
 }
 
+static bool is_of_form(Operation operation)
+{
+    return operation >= GROUP_PAGE && operation <= GROUP_REMOVE;
+}
+
 Depths depths_of(Operation operation, Shape shape)
 {
     static const Depths depths[SHAPES] = {
@@ -32,7 +37,7 @@ Depths depths_of(Operation operation, Shape shape)
         [DEEP] = {4, 8},
         [DEEPEST] = {DEPTH_LIMIT - 4, DEPTH_LIMIT},
     };
-    Depths given = depths[shape];
+    Depths given = depths[is_of_form(operation) ? SHALLOW : shape];
     /* A rename may add a tuple. */
     if (shape != SHALLOW && (operation == RENAME_PAGE || operation == TAKE_BACK || is_edited(operation)))
         given.deepest--;
@@ -76,18 +81,43 @@ static void make_log(size_t lines, Depths depths, Part *log)
     }
 }
 
-/* A renamed book after lines were added: of each two lines, one that was logged and one inserted right behind it, under the
- * name that 01's rule makes there, N(k)·(32768, node, sequence, 0). */
+/* A line of a renamed book, N(k), or one that was inserted right behind it since, under the name that 01's rule makes there,
+ * N(k)·(32768, node, sequence, 0). */
+static void add_renamed(Part *page, size_t i, size_t k, bool is_added, Depths depths)
+{
+    Tuple logged = {slot_at(0, 0, depths).name.tuples[0].position, AUTHOR_NODE, AUTHOR_SEQUENCE, (int32_t)k};
+    Tuple added = {32768, OTHER_NODE, (uint32_t)i, 0};
+    Slot slot = {(uint32_t)i + 1, {1 + (size_t)is_added, {logged, added}}};
+    add_slot(page, &slot);
+}
+
+/* A renamed book after lines were added: of each two lines, one that was logged and one inserted right behind it. The logged
+ * ones that stood between are gone. */
 static void make_edited(size_t lines, Depths depths, Part *page)
 {
-    const uint16_t position = slot_at(0, 0, depths).name.tuples[0].position;
+    page->length = 0;
+    for (size_t i = 0; i < lines; i++)
+        add_renamed(page, i, i - i % 2, i % 2 == 1, depths);
+}
+
+/* A renamed book, where one line in so many, the last of them, was added since; or none, of 0. */
+static void make_renamed(size_t lines, size_t one_in, Depths depths, Part *page)
+{
+    size_t logged = 0;
     page->length = 0;
     for (size_t i = 0; i < lines; i++) {
-        Tuple logged = {position, AUTHOR_NODE, AUTHOR_SEQUENCE, (int32_t)(i - i % 2)};
-        Tuple added = {32768, OTHER_NODE, (uint32_t)i, 0};
-        Slot slot = {(uint32_t)i + 1, {1 + i % 2, {logged, added}}};
-        add_slot(page, &slot);
+        bool is_added = one_in > 0 && i % one_in == one_in - 1;
+        logged += !is_added;
+        add_renamed(page, i, logged - 1, is_added, depths);
     }
+}
+
+static void make_book(size_t lines, Shape shape, Depths depths, Part *page)
+{
+    if (shape == FRESH)
+        make_page(lines, depths, page);
+    else
+        make_renamed(lines, shape == ADDED_TO ? 4 : 0, depths, page);
 }
 
 /* Gives every so many-th name of a page, from one on, an end marker, and behind it its last tuple again. */
@@ -103,6 +133,12 @@ static void mark_names(size_t from, size_t step, Part *page)
         slot.name.depth += 2;
         write_slot(page->bytes + i * SLOT_BYTES, &slot);
     }
+}
+
+void clear_lines(Part *page)
+{
+    for (size_t at = 0; at < page->length; at += SLOT_BYTES)
+        to_bytes(page->bytes + at + 4, 4, 0);
 }
 
 static void copy_slot(const Part *page, size_t i, Part *slot)
@@ -203,6 +239,22 @@ void make_input(Operation operation, Shape shape, size_t size, Input *input)
         make_page(size, depths, first);
         if (operation == FROM_OLD)
             become_result(TO_OLD, KADALUMBIR_OLD_SLOT_BYTES, input);
+        break;
+    case GROUP_PAGE:
+    case UNGROUP_FORM:
+        make_book(size, shape, depths, first);
+        if (operation == UNGROUP_FORM)
+            become_result(GROUP_PAGE, 1, input);
+        break;
+    case GROUP_INSERT:
+    case GROUP_REMOVE:
+        /* The line stands alone in a fresh book, inside the group of a renamed one, and between two groups that are one
+         * without it in the book to which such lines were added. */
+        make_book(size, shape, depths, first);
+        copy_slot(first, middle - 1, second);
+        if (operation == GROUP_INSERT)
+            cut_slot(first, middle - 1);
+        become_result(GROUP_PAGE, 1, input);
         break;
     case CHECK_EPOCHS:
         make_table(size, shape, first);

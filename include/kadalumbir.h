@@ -44,6 +44,10 @@
  *   message fields of tag u8, length u16, content, in this order: 1 kind (u8); 2 epoch and 3 author (each node u16,
  *           sequence u32; the first epoch is six zeros, an author's node is at least 1); 4 a name's tuples; for insert
  *           then 5 line number (u32). Insert and remove have one name, rename 1 to 256 rising ones.
+ *   form    a page in groups, for a packet that a page does not fit. A group is a run of neighbouring slots whose names differ
+ *           only in the last offset, each one more than the one before: fields as in a message, 6 the first name's tuples;
+ *           7 how many slots (u16, at least 1); 8 their line numbers (u32 each), group after group. Groups are as long as
+ *           possible, so a page has one form; no bytes are the form of the empty page.
  */
 #ifndef KADALUMBIR_H
 #define KADALUMBIR_H
@@ -67,6 +71,7 @@ extern "C" {
 #define KADALUMBIR_ENTRIES 32 /* the most of an epoch table */
 #define KADALUMBIR_TABLE_BYTES (KADALUMBIR_ENTRIES * KADALUMBIR_ENTRY_BYTES)
 #define KADALUMBIR_MESSAGE_BYTES 49942 /* of the longest message */
+#define KADALUMBIR_FORM_BYTES 52992 /* of the longest form: 256 groups of one slot, each name of 16 tuples */
 
 /* What comes back. */
 typedef enum kadalumbir_answer {
@@ -81,11 +86,11 @@ typedef enum kadalumbir_answer {
     KADALUMBIR_SHORT = 8,            /* output shorter than the result */
     KADALUMBIR_PRESENT = 9,          /* insert: name present */
     KADALUMBIR_ABSENT = 10,          /* remove: name absent */
-    KADALUMBIR_FULL = 11,            /* insert: page has 256 slots */
+    KADALUMBIR_FULL = 11,            /* insert: page has 256 slots; a form of more than 256 slots */
     KADALUMBIR_NO_NEW_NAME = 12,     /* no new name by the rule */
     KADALUMBIR_BAD_TABLE = 13,       /* epoch table breaks its layout, or the count given to add is none of 1..256 */
     KADALUMBIR_NO_EPOCH = 14,        /* current or parent index not in the table */
-    KADALUMBIR_MALFORMED = 15,       /* message, or the parts given for one, malformed */
+    KADALUMBIR_MALFORMED = 15,       /* message, the parts given for one, or a form malformed */
     KADALUMBIR_NO_GAP = 16,          /* gap beyond the page */
     KADALUMBIR_LISTED = 17,          /* epoch to add already listed */
     KADALUMBIR_TABLE_FULL = 18       /* epoch table has 32 entries */
@@ -191,6 +196,34 @@ uint64_t kadalumbir_write_message(uint8_t kind, uint16_t epoch_node, uint32_t ep
 uint64_t kadalumbir_read_message(const uint8_t *message, size_t message_len, uint8_t *kind, uint16_t *epoch_node,
                                  uint32_t *epoch_sequence, uint16_t *author_node, uint32_t *author_sequence,
                                  uint32_t *line, uint8_t *out, size_t out_len);
+
+/* ---- forms: a page in groups. What a form says is what its page says; the calls need no page to edit one. A form is read
+ * to its end, however long it is. 15 is every form that grouping cannot give, the order and the number of its slots apart: a
+ * field that is broken, missing, out of order or of another tag; bytes after the last group; what is no name, or has more
+ * than 16 tuples; a length of 0; line numbers that are not four bytes for each slot; a run that would pass offset
+ * 2147483646; a group that goes on where the group before it ends, so that the two would be one. Then 2 where the names do
+ * not rise strictly, and 11 where there are more than 256 slots. */
+
+/* Writes the page's form. The count is that of its bytes.
+ * Refuses 1, 2, 8. Stack: 220 bytes. */
+uint64_t kadalumbir_group(const uint8_t *page, size_t page_len, uint8_t *out, size_t out_len);
+
+/* Writes the page of the form. The count is that of its slots. Grouping it again gives the same bytes, and so does
+ * ungrouping what was grouped.
+ * Refuses 15, 2, 11, 8. Stack: 330 bytes. */
+uint64_t kadalumbir_ungroup(const uint8_t *form, size_t form_len, uint8_t *out, size_t out_len);
+
+/* Writes the form of the page with the given slot, which is exactly one slot long, at its rising place: what grouping what
+ * kadalumbir_insert writes would give. The count is that of the form's bytes.
+ * Refuses 15, 2, 11 (more than 256 slots), 1 (slot), 9, 11 (256 slots), 8. Stack: 430 bytes. */
+uint64_t kadalumbir_group_insert(const uint8_t *form, size_t form_len, const uint8_t *slot, size_t slot_len, uint8_t *out,
+                                 size_t out_len);
+
+/* Writes the form of the page without the slot that has the given slot's name; the given line number is ignored. The count
+ * is that of the form's bytes.
+ * Refuses 15, 2, 11, 1 (slot), 10, 8. Stack: 400 bytes. */
+uint64_t kadalumbir_group_remove(const uint8_t *form, size_t form_len, const uint8_t *slot, size_t slot_len, uint8_t *out,
+                                 size_t out_len);
 
 #ifdef __cplusplus
 }

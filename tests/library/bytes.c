@@ -28,6 +28,23 @@ void copy_bytes(const Bytes *from, Bytes *to)
     memcpy(to->bytes, from->bytes, from->length);
 }
 
+void add_group(Bytes *form, const Name *first, size_t length, size_t lines)
+{
+    Written written = {form->length, form->bytes};
+    put_name(&written, FIRST_NAME_TAG, first);
+    put_head(&written, LENGTH_TAG, LENGTH_BYTES);
+    put_number(&written, LENGTH_BYTES, (uint32_t)length);
+    put_head(&written, LINES_TAG, lines * LINE_BYTES);
+    form->length = written.length;
+}
+
+void add_group_line(Bytes *form, uint32_t line)
+{
+    Written written = {form->length, form->bytes};
+    put_number(&written, LINE_BYTES, line);
+    form->length = written.length;
+}
+
 void copy_slot(const Bytes *page, size_t at, Bytes *slot)
 {
     slot->length = SLOT_BYTES;
@@ -168,10 +185,10 @@ size_t room_for(size_t bytes)
     case 1: room = random_below(bytes + 1); break;
     case 2: room = bytes + 1; break;
     case 3: room = PAGE_BYTES; break;
-    case 4: room = MOST_BYTES; break;
+    case 4: room = MOST_ROOM; break;
     default: break;
     }
-    return room <= MOST_BYTES ? room : MOST_BYTES;
+    return room <= MOST_ROOM ? room : MOST_ROOM;
 }
 
 uint16_t maybe_no_node(uint16_t node)

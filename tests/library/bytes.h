@@ -13,6 +13,11 @@ size_t slots_of(const Bytes *bytes);
 
 void copy_bytes(const Bytes *from, Bytes *to);
 
+/* A form goes on with a group up to its line numbers, which the length says to be so many and which are so many; and with one
+ * line number. */
+void add_group(Bytes *form, const Name *first, size_t length, size_t lines);
+void add_group_line(Bytes *form, uint32_t line);
+
 /* A slot of a page, alone. */
 void copy_slot(const Bytes *page, size_t at, Bytes *slot);
 

@@ -106,6 +106,13 @@ static void convert_book(void)
         take_output(&page, page.length);
 }
 
+/* To its form and back, and goes on with what comes back. */
+static void group_book(void)
+{
+    if (hold_group_and_back(&page).answer == ACCEPTED)
+        take_output(&page, page.length);
+}
+
 /* The book is one that was kept as an old page. */
 static void begin_with_old(void)
 {
@@ -124,6 +131,8 @@ static void edit(size_t times)
             try_spoilt();
         if (once_in(12))
             convert_book();
+        if (once_in(12))
+            group_book();
         if (once_in(5))
             remove_line();
         else if (once_in(4))
@@ -172,6 +181,7 @@ static void rename_book(void)
     renames[renamed].sequence = sequence;
     renames[renamed].parent = epoch;
     renamed++;
+    group_book();
     add_book_epoch(node, sequence, log);
 }
 

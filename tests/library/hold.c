@@ -30,6 +30,7 @@ SAME(KADALUMBIR_ENTRY_BYTES, ENTRY_BYTES);
 SAME(KADALUMBIR_ENTRIES, ENTRY_LIMIT);
 SAME(KADALUMBIR_TABLE_BYTES, TABLE_BYTES);
 SAME(KADALUMBIR_MESSAGE_BYTES, LONGEST_MESSAGE);
+SAME(KADALUMBIR_FORM_BYTES, LONGEST_FORM);
 
 /* ---- the calls, what was met of them, and what differed */
 
@@ -48,13 +49,17 @@ typedef enum {
     ADD_EPOCH,
     WRITE_MESSAGE,
     READ_MESSAGE,
+    GROUP_PAGE,
+    UNGROUP_FORM,
+    GROUP_INSERT,
+    GROUP_REMOVE,
     CALLS
 } Call;
 
 enum { ANSWERS = 19, DIFFERENCES_TOLD = 10 };
 
-/* Of each call the answers that 01 and 02 have for it, ended by -1: "Order" of "What comes back", and "Refusals of a
- * conversion". The 13 of adding stands here once, and among the ways twice. */
+/* Of each call the answers that 01 and 02 have for it, ended by -1: "Order" of "What comes back", "Refusals of a conversion"
+ * and those of grouping. The 13 of adding and the 11 of an insert into a form stand here once, and among the ways twice. */
 static const struct {
     const char *name;
     int answers[10];
@@ -73,6 +78,10 @@ static const struct {
     [ADD_EPOCH] = {"add_epoch", {0, 13, 14, 4, 17, 18, 8, -1}},
     [WRITE_MESSAGE] = {"write_message", {0, 15, 8, -1}},
     [READ_MESSAGE] = {"read_message", {0, 15, 8, -1}},
+    [GROUP_PAGE] = {"group", {0, 1, 2, 8, -1}},
+    [UNGROUP_FORM] = {"ungroup", {0, 15, 2, 11, 8, -1}},
+    [GROUP_INSERT] = {"group_insert", {0, 15, 2, 11, 1, 9, 8, -1}},
+    [GROUP_REMOVE] = {"group_remove", {0, 15, 2, 11, 1, 10, 8, -1}},
 };
 
 static size_t met[CALLS][ANSWERS], held, differences;
@@ -96,7 +105,7 @@ static void differs(const char *what, uint64_t is, uint64_t must)
         printf("case %zu, %s: %s is %" PRIu64 " and must be %" PRIu64 "\n", held, calls[call].name, what, is, must);
 }
 
-static void hold_number(const char *what, uint64_t is, uint64_t must)
+void hold_number(const char *what, uint64_t is, uint64_t must)
 {
     if (is != must)
         differs(what, is, must);
@@ -125,7 +134,7 @@ typedef struct {
 static Lent first, second, output;
 
 /* What the plain C works on: the same canaries, FRONT bytes before the output. */
-static uint8_t must_bytes[FRONT + MOST_BYTES];
+static uint8_t must_bytes[FRONT + MOST_ROOM];
 
 static void make_memory(Lent *lent)
 {
@@ -158,7 +167,7 @@ static void lend_input(Lent *lent, const Bytes *input)
  * after CANARIES bytes. */
 enum { CANARIES = 256 };
 
-static uint8_t canaries[CANARIES + FRONT + MOST_BYTES];
+static uint8_t canaries[CANARIES + FRONT + MOST_ROOM];
 static const uint8_t *before;
 
 static void make_canaries(void)
@@ -230,7 +239,8 @@ enum {
 
 /* What has several ways to come to what it gives: the rows of the table of "Renaming one name"; the bullets of "Taking it back"
  * with their cases; the reasons of a table's 13; the three steps; by what the target is above an epoch; walks that
- * stay, go down, and go up first; the two 13 of adding; of a message the kinds that are accepted and the reasons of 15. */
+ * stay, go down, and go up first; the two 13 of adding; of a message the kinds that are accepted and the reasons of 15; of a
+ * form the reasons of 15, the two 11 of an insert, and what becomes of the groups. */
 typedef enum {
     BY_RENAME,
     BY_LONG_RENAME,
@@ -243,6 +253,12 @@ typedef enum {
     BY_ADDING,
     BY_WRITING,
     BY_READING,
+    BY_UNGROUPING,
+    BY_WRONG_INSERT,
+    BY_WRONG_REMOVE,
+    BY_FULL_INSERT,
+    BY_GROUP_INSERT,
+    BY_GROUP_REMOVE,
     HAVE_WAYS
 } HasWays;
 
@@ -262,6 +278,12 @@ static const struct {
     [BY_ADDING] = {"add_epoch, 13 by", 2, 1},
     [BY_WRITING] = {"write_message", 13, 1},
     [BY_READING] = {"read_message", 16, 1},
+    [BY_UNGROUPING] = {"ungroup, 15 by", 10, 1},
+    [BY_WRONG_INSERT] = {"group_insert, 15 by", 10, 1},
+    [BY_WRONG_REMOVE] = {"group_remove, 15 by", 10, 1},
+    [BY_FULL_INSERT] = {"group_insert, 11 by", 2, 1},
+    [BY_GROUP_INSERT] = {"group_insert", 5, 1},
+    [BY_GROUP_REMOVE] = {"group_remove", 5, 1},
 };
 
 static struct {
@@ -275,7 +297,7 @@ static void count_way(HasWays of, const char *words)
     while (i < have_ways[of].ways && ways[of][i].words != NULL && strcmp(ways[of][i].words, words) != 0)
         i++;
     if (i == have_ways[of].ways) {
-        printf("a way that 01 does not have: %s, %s\n", have_ways[of].name, words);
+        printf("a way that 01 and 02 do not have: %s, %s\n", have_ways[of].name, words);
         exit(EXIT_FAILURE);
     }
     ways[of][i].words = words;
@@ -420,18 +442,19 @@ Outcome hold_to_old(const Bytes *page, size_t room)
     return hold(is, to_old(page->bytes, page->length, must_bytes + FRONT, room));
 }
 
-/* "The names and line numbers are equal both ways", and so is every byte. What is converted has slots of so many bytes. */
-static Outcome hold_there_and_back(const Bytes *page, size_t slot_bytes, Outcome (*there)(const Bytes *page, size_t room),
+/* "The names and line numbers are equal both ways", and so is every byte; of a form, "Both round trips give the same bytes".
+ * What is converted has as many pieces as the count says, of so many bytes each. */
+static Outcome hold_there_and_back(const Bytes *page, size_t piece, Outcome (*there)(const Bytes *page, size_t room),
                                    Outcome (*back)(const Bytes *page, size_t room))
 {
     static Bytes converted;
-    Outcome outcome = there(page, MOST_BYTES);
+    Outcome outcome = there(page, MOST_ROOM);
     if (outcome.answer != ACCEPTED)
         return outcome;
-    take_output(&converted, outcome.count * slot_bytes);
+    take_output(&converted, outcome.count * piece);
     back(&converted, page->length);
     bool same = memcmp(output.end - output.length, page->bytes, page->length) == 0;
-    hold_number("whether the page came back", same, 1);
+    hold_number("whether the same bytes came back", same, 1);
     return outcome;
 }
 
@@ -545,6 +568,76 @@ Outcome hold_read_message(const Bytes *message, Numbers *numbers, size_t room)
     if (must.answer == ACCEPTED)
         count_way(BY_READING, kinds[said.kind]);
     return hold(is, must);
+}
+
+Outcome hold_group(const Bytes *page, size_t room)
+{
+    begin(GROUP_PAGE, page, NULL, room);
+    uint64_t is = kadalumbir_group(first.bytes, first.length, output.bytes, room);
+    return hold(is, group_page(page->bytes, page->length, must_bytes + FRONT, room));
+}
+
+static void count_wrong_form(HasWays of, const Bytes *form, Outcome outcome)
+{
+    if (outcome.answer == MALFORMED)
+        count_way(of, wrong_with_form(form->bytes, form->length));
+}
+
+Outcome hold_ungroup(const Bytes *form, size_t room)
+{
+    begin(UNGROUP_FORM, form, NULL, room);
+    uint64_t is = kadalumbir_ungroup(first.bytes, first.length, output.bytes, room);
+    Outcome must = ungroup_form(form->bytes, form->length, must_bytes + FRONT, room);
+    count_wrong_form(BY_UNGROUPING, form, must);
+    return hold(is, must);
+}
+
+Outcome hold_group_insert(const Bytes *form, const Bytes *slot, size_t room)
+{
+    begin(GROUP_INSERT, form, slot, room);
+    uint64_t is = kadalumbir_group_insert(first.bytes, first.length, second.bytes, second.length, output.bytes, room);
+    Outcome must = insert_grouped(form->bytes, form->length, slot->bytes, slot->length, must_bytes + FRONT, room);
+    count_wrong_form(BY_WRONG_INSERT, form, must);
+    if (must.answer == PAGE_FULL)
+        count_way(BY_FULL_INSERT, check_form(form->bytes, form->length) == ACCEPTED ? "256 slots" : "more than 256");
+    if (must.answer == ACCEPTED)
+        count_way(BY_GROUP_INSERT, way_of_insert(form->bytes, form->length, slot->bytes));
+    return hold(is, must);
+}
+
+Outcome hold_group_remove(const Bytes *form, const Bytes *slot, size_t room)
+{
+    begin(GROUP_REMOVE, form, slot, room);
+    uint64_t is = kadalumbir_group_remove(first.bytes, first.length, second.bytes, second.length, output.bytes, room);
+    Outcome must = remove_grouped(form->bytes, form->length, slot->bytes, slot->length, must_bytes + FRONT, room);
+    count_wrong_form(BY_WRONG_REMOVE, form, must);
+    if (must.answer == ACCEPTED)
+        count_way(BY_GROUP_REMOVE, way_of_remove(form->bytes, form->length, slot->bytes));
+    return hold(is, must);
+}
+
+Outcome hold_group_and_back(const Bytes *page)
+{
+    return hold_there_and_back(page, 1, hold_group, hold_ungroup);
+}
+
+Outcome hold_ungroup_and_back(const Bytes *form)
+{
+    return hold_there_and_back(form, SLOT_BYTES, hold_ungroup, hold_group);
+}
+
+static void hold_written(const char *what, const Bytes *must, size_t length)
+{
+    bool same = length == must->length && memcmp(output.end - output.length, must->bytes, length) == 0;
+    hold_number(what, same, 1);
+}
+
+void hold_alike(const Bytes *page, const Bytes *form)
+{
+    Outcome grouped = hold_group(page, MOST_ROOM);
+    hold_written("whether the page's form is the form", form, grouped.count);
+    Outcome ungrouped = hold_ungroup(form, MOST_ROOM);
+    hold_written("whether the form's page is the page", page, ungrouped.count * SLOT_BYTES);
 }
 
 /* ---- what was met */

@@ -6,11 +6,14 @@
 #define TESTS_LIBRARY_HOLD_H
 
 #include "../reference/epochs.h"
+#include "../reference/groups.h"
 #include "../reference/messages.h"
 #include "../reference/old_pages.h"
 
 enum {
-    MOST_BYTES = PAGE_BYTES + 2 * SLOT_BYTES /* of an input or an output */
+    /* Of an input: two groups, each of as many slots as a field has room for line numbers. */
+    MOST_BYTES = 2 * (LONGEST_NAME_FIELD + LENGTH_FIELD + FIELD_HEAD_BYTES + MOST_LINES * LINE_BYTES),
+    MOST_ROOM = LONGEST_FORM + 2 * SLOT_BYTES /* of an output */
 };
 
 /* An input, or what a call has written. */
@@ -35,15 +38,27 @@ Outcome hold_add_epoch(const Bytes *table, size_t parent, uint16_t node, uint32_
                        size_t room);
 Outcome hold_write_message(const Numbers *numbers, const Bytes *names, size_t room);
 Outcome hold_read_message(const Bytes *message, Numbers *numbers, size_t room);
+Outcome hold_group(const Bytes *page, size_t room);
+Outcome hold_ungroup(const Bytes *form, size_t room);
+Outcome hold_group_insert(const Bytes *form, const Bytes *slot, size_t room);
+Outcome hold_group_remove(const Bytes *form, const Bytes *slot, size_t room);
 
 /* Follows the next step from an entry until one stays or is refused, gives the answer of the first, and holds the indices
  * passed to those of the plain C. */
 int hold_walk(const Bytes *table, size_t current, Path *walked);
 
-/* Convert a page and, where that is accepted, the outcome back, which must have the same bytes; give the outcome of the
- * first. */
+/* Convert a page or a form and, where that is accepted, the outcome back, which must have the same bytes; give the outcome of
+ * the first. */
 Outcome hold_old_and_back(const Bytes *page);
 Outcome hold_new_and_back(const Bytes *old);
+Outcome hold_group_and_back(const Bytes *page);
+Outcome hold_ungroup_and_back(const Bytes *form);
+
+/* Holds a page and a form to each other: grouping the one gives the other, and ungrouping the other gives the one. */
+void hold_alike(const Bytes *page, const Bytes *form);
+
+/* Holds a number that belongs to the last call to what it must be. */
+void hold_number(const char *what, uint64_t is, uint64_t must);
 
 /* The first bytes of the output of the last call, as the library left them; and how many bytes after those are not as they
  * were before it. */

@@ -1,7 +1,7 @@
 /*
- * lines SUBJECT: runs the lines of text about books, old_pages, epochs or messages that stand on standard input, each against
- * the plain C, and writes each again with what came back. Fails if the library and the plain C differ in anything. A line that
- * begins with '#' is a title.
+ * lines SUBJECT: runs the lines of text about books, old_pages, epochs, messages or groups that stand on standard input, each
+ * against the plain C, and writes each again with what came back. Fails if the library and the plain C differ in anything. A
+ * line that begins with '#' is a title.
  */
 #include "lines.h"
 
@@ -26,11 +26,19 @@ int64_t read_number(void)
     return number;
 }
 
+char last_passed(void)
+{
+    return rest[-1];
+}
+
 void read_hex(Bytes *bytes)
 {
-    for (bytes->length = 0; !line_ended(); rest += 2) {
+    bytes->length = 0;
+    while (!line_ended()) {
         char digits[] = {rest[0], rest[1], '\0'};
         bytes->bytes[bytes->length++] = (uint8_t)strtoul(digits, NULL, 16);
+        rest += 2;
+        rest += strspn(rest, " ");
     }
 }
 
@@ -54,9 +62,9 @@ Name read_name(void)
     Name name = {0, {{0, 0, 0, 0}}};
     do {
         Tuple t = read_line_tuple();
-        for (int64_t times = rest[-1] == '*' ? read_number() : 1; times > 0 && name.depth < DEPTH_LIMIT; times--)
+        for (int64_t times = last_passed() == '*' ? read_number() : 1; times > 0 && name.depth < DEPTH_LIMIT; times--)
             name.tuples[name.depth++] = t;
-    } while (rest[-1] == '/' && name.depth < DEPTH_LIMIT);
+    } while (last_passed() == '/' && name.depth < DEPTH_LIMIT);
     return name;
 }
 
@@ -88,9 +96,9 @@ void read_names(Bytes *log, size_t most, uint32_t line)
 size_t read_size(void)
 {
     size_t size = (size_t)read_number();
-    if (rest[-1] != 's' && rest[-1] != 'o')
+    if (last_passed() != 's' && last_passed() != 'o')
         return size;
-    size *= rest[-1] == 's' ? SLOT_BYTES : OLD_SLOT_BYTES;
+    size *= last_passed() == 's' ? SLOT_BYTES : OLD_SLOT_BYTES;
     if (*rest == '+' || *rest == '-')
         size += (size_t)read_number();
     else if (!line_ended())
@@ -101,7 +109,7 @@ size_t read_size(void)
 size_t read_room(void)
 {
     size_t room = read_size();
-    return room <= MOST_BYTES ? room : MOST_BYTES;
+    return room <= MOST_ROOM ? room : MOST_ROOM;
 }
 
 void say(Outcome outcome)
@@ -139,6 +147,8 @@ static const LineKind *kinds_of(const char *subject)
         return epoch_lines;
     if (strcmp(subject, "messages") == 0)
         return message_lines;
+    if (strcmp(subject, "groups") == 0)
+        return group_lines;
     fprintf(stderr, "lines: what are %s?\n", subject);
     exit(EXIT_FAILURE);
 }

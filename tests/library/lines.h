@@ -8,7 +8,10 @@
 /* The next number of the line, and the byte after it is passed over. */
 int64_t read_number(void);
 
-/* The bytes up to the end of the line, two hex digits each. */
+/* The byte that was passed over last. */
+char last_passed(void);
+
+/* The bytes up to the end of the line, two hex digits each; there may be blanks between them. */
 void read_hex(Bytes *bytes);
 
 bool line_ended(void);
@@ -36,6 +39,6 @@ typedef struct {
     void (*run)(void);
 } LineKind;
 
-extern const LineKind book_lines[], old_page_lines[], epoch_lines[], message_lines[];
+extern const LineKind book_lines[], old_page_lines[], epoch_lines[], message_lines[], group_lines[];
 
 #endif

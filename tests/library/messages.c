@@ -71,7 +71,7 @@ static void read_one_more(void)
     at[2] = TUPLE_BYTES;
     write_tuple(at + FIELD_HEAD_BYTES, above);
     message.length += FIELD_HEAD_BYTES + TUPLE_BYTES;
-    hold_read_message(&message, &numbers, MOST_BYTES);
+    hold_read_message(&message, &numbers, MOST_ROOM);
 }
 
 void many_case(void)

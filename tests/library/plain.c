@@ -2,6 +2,7 @@
 #include "../../include/kadalumbir.h"
 #include "../reference/edits.h"
 #include "../reference/epochs.h"
+#include "../reference/groups.h"
 #include "../reference/messages.h"
 #include "../reference/old_pages.h"
 #include "../reference/renames.h"
@@ -113,4 +114,26 @@ uint64_t kadalumbir_read_message(const uint8_t *message, size_t message_len, uin
     *author_sequence = numbers.author.sequence;
     *line = numbers.line;
     return packed(outcome);
+}
+
+uint64_t kadalumbir_group(const uint8_t *page, size_t page_len, uint8_t *out, size_t out_len)
+{
+    return packed(group_page(page, page_len, out, out_len));
+}
+
+uint64_t kadalumbir_ungroup(const uint8_t *form, size_t form_len, uint8_t *out, size_t out_len)
+{
+    return packed(ungroup_form(form, form_len, out, out_len));
+}
+
+uint64_t kadalumbir_group_insert(const uint8_t *form, size_t form_len, const uint8_t *slot, size_t slot_len, uint8_t *out,
+                                 size_t out_len)
+{
+    return packed(insert_grouped(form, form_len, slot, slot_len, out, out_len));
+}
+
+uint64_t kadalumbir_group_remove(const uint8_t *form, size_t form_len, const uint8_t *slot, size_t slot_len, uint8_t *out,
+                                 size_t out_len)
+{
+    return packed(remove_grouped(form, form_len, slot, slot_len, out, out_len));
 }

@@ -2,10 +2,8 @@
 
 #include <inttypes.h>
 
-#include "book.h"
-
 /* "the tuples as position.node.sequence.offset joined by `/`, all in decimal, a negative offset with `-`" */
-static void list_name(const Name *name, FILE *out)
+void list_name(const Name *name, FILE *out)
 {
     for (size_t i = 0; i < name->depth; i++) {
         Tuple t = name->tuples[i];

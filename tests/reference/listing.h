@@ -2,9 +2,12 @@
 #ifndef TESTS_REFERENCE_LISTING_H
 #define TESTS_REFERENCE_LISTING_H
 
-#include <stddef.h>
-#include <stdint.h>
 #include <stdio.h>
+
+#include "book.h"
+
+/* The tuples of a name, as they stand in a listing. */
+void list_name(const Name *name, FILE *out);
 
 /* Writes what document 01 says for these bytes: the whole listing, or the line of a refusal. */
 void list_page(const uint8_t *bytes, size_t length, FILE *out);

@@ -39,47 +39,7 @@ static const char *wrong_with_names(uint8_t kind, const Page *names)
 
 /* ---- reading */
 
-/* The bytes of a message that are not read yet. */
-typedef struct {
-    const uint8_t *bytes;
-    size_t length;
-} Rest;
-
-typedef struct {
-    const uint8_t *content;
-    size_t length;
-} Field;
-
-/* Takes the next field, which must have this tag. */
-static const char *take_field(Rest *rest, uint8_t tag, Field *field)
-{
-    if (rest->length < FIELD_HEAD_BYTES)
-        return "cut before a field's content";
-    if (rest->bytes[0] != tag)
-        return "another tag";
-    field->length = from_bytes(rest->bytes + 1, 2);
-    field->content = rest->bytes + FIELD_HEAD_BYTES;
-    rest->bytes += FIELD_HEAD_BYTES;
-    rest->length -= FIELD_HEAD_BYTES;
-    if (field->length > rest->length)
-        return "a length past the end";
-    rest->bytes += field->length;
-    rest->length -= field->length;
-    return NULL;
-}
-
-/* The same of a field that must have so many bytes. */
-static const char *take_bytes(Rest *rest, uint8_t tag, size_t length, const uint8_t **content)
-{
-    Field field;
-    const char *wrong = take_field(rest, tag, &field);
-    if (wrong != NULL)
-        return wrong;
-    *content = field.content;
-    return field.length == length ? NULL : "a number of another length";
-}
-
-static const char *take_kind(Rest *rest, uint8_t *kind)
+static const char *take_kind(Span *rest, uint8_t *kind)
 {
     const uint8_t *content;
     const char *wrong = take_bytes(rest, KIND_TAG, KIND_BYTES, &content);
@@ -88,7 +48,7 @@ static const char *take_kind(Rest *rest, uint8_t *kind)
     return wrong;
 }
 
-static const char *take_pair(Rest *rest, uint8_t tag, Pair *pair)
+static const char *take_pair(Span *rest, uint8_t tag, Pair *pair)
 {
     const uint8_t *content;
     const char *wrong = take_bytes(rest, tag, PAIR_BYTES, &content);
@@ -99,7 +59,7 @@ static const char *take_pair(Rest *rest, uint8_t tag, Pair *pair)
     return wrong;
 }
 
-static const char *take_line(Rest *rest, uint32_t *line)
+static const char *take_line(Span *rest, uint32_t *line)
 {
     const uint8_t *content;
     const char *wrong = take_bytes(rest, LINE_TAG, LINE_BYTES, &content);
@@ -109,26 +69,21 @@ static const char *take_line(Rest *rest, uint32_t *line)
 }
 
 /* "tag 4 (a name's tuples, 12 bytes each)" */
-static const char *take_name(Rest *rest, Page *names)
+static const char *take_name(Span *rest, Page *names)
 {
-    Field field;
-    const char *wrong = take_field(rest, NAME_TAG, &field);
+    Span content;
+    const char *wrong = take_field(rest, NAME_TAG, &content);
     if (wrong != NULL)
         return wrong;
     if (names->count == SLOT_LIMIT)
         return "more names than 256";
-    if (field.length % TUPLE_BYTES != 0 || field.length < TUPLE_BYTES || field.length > DEPTH_LIMIT * TUPLE_BYTES)
-        return "a name of another length";
     Slot *slot = &names->slots[names->count++];
     slot->line = 0;
-    slot->name.depth = field.length / TUPLE_BYTES;
-    for (size_t i = 0; i < slot->name.depth; i++)
-        slot->name.tuples[i] = read_tuple(field.content + i * TUPLE_BYTES);
-    return is_name(&slot->name) ? NULL : "a bad name";
+    return read_content(content, &slot->name);
 }
 
 /* "Tag 1: kind [..] Tag 2: epoch [..] Tag 3: author" */
-static const char *take_numbers(Rest *rest, Numbers *numbers)
+static const char *take_numbers(Span *rest, Numbers *numbers)
 {
     const char *wrong = take_kind(rest, &numbers->kind);
     if (wrong == NULL)
@@ -139,7 +94,7 @@ static const char *take_numbers(Rest *rest, Numbers *numbers)
 }
 
 /* "Then for insert tag 4 [..] and tag 5 [..]; for remove one tag 4; for rename 1..256 tags 4" */
-static const char *take_names(Rest *rest, Message *message)
+static const char *take_names(Span *rest, Message *message)
 {
     const char *wrong = NULL;
     if (message->numbers.kind == RENAME) {
@@ -158,7 +113,7 @@ static const char *take_message(const uint8_t *bytes, size_t length, Message *me
 {
     memset(&message->numbers, 0, sizeof message->numbers);
     message->names.count = 0;
-    Rest rest = {bytes, length};
+    Span rest = {bytes, length};
     const char *wrong = take_numbers(&rest, &message->numbers);
     if (wrong == NULL)
         wrong = wrong_with_numbers(&message->numbers);
@@ -218,25 +173,6 @@ const char *wrong_with_parts(const Numbers *numbers, const uint8_t *slots, size_
     return wrong_with_names(numbers->kind, &names);
 }
 
-/* A message that is being written; it has room for the longest. */
-typedef struct {
-    size_t length;
-    uint8_t bytes[LONGEST_MESSAGE];
-} Written;
-
-static void put_number(Written *written, size_t length, uint32_t number)
-{
-    to_bytes(written->bytes + written->length, length, number);
-    written->length += length;
-}
-
-/* "Fields of one-byte tag, two-byte length, content" */
-static void put_head(Written *written, uint8_t tag, size_t length)
-{
-    put_number(written, 1, tag);
-    put_number(written, 2, (uint32_t)length);
-}
-
 static void put_pair(Written *written, uint8_t tag, Pair pair)
 {
     put_head(written, tag, PAIR_BYTES);
@@ -244,24 +180,14 @@ static void put_pair(Written *written, uint8_t tag, Pair pair)
     put_number(written, 4, pair.sequence);
 }
 
-static void put_name(Written *written, const Name *name)
-{
-    put_head(written, NAME_TAG, name->depth * TUPLE_BYTES);
-    for (size_t i = 0; i < name->depth; i++) {
-        write_tuple(written->bytes + written->length, name->tuples[i]);
-        written->length += TUPLE_BYTES;
-    }
-}
-
 static void put_message(Written *written, const Numbers *numbers, const Page *names)
 {
-    written->length = 0;
     put_head(written, KIND_TAG, KIND_BYTES);
     put_number(written, KIND_BYTES, numbers->kind);
     put_pair(written, EPOCH_TAG, numbers->epoch);
     put_pair(written, AUTHOR_TAG, numbers->author);
     for (size_t i = 0; i < names->count; i++)
-        put_name(written, &names->slots[i].name);
+        put_name(written, NAME_TAG, &names->slots[i].name);
     if (numbers->kind == INSERT) {
         put_head(written, LINE_TAG, LINE_BYTES);
         put_number(written, LINE_BYTES, numbers->line);
@@ -275,11 +201,8 @@ Outcome write_message(const Numbers *numbers, const uint8_t *slots, size_t slots
         return refused(MALFORMED);
     Page names;
     read_page(slots, slots_length, &names);
-    Written written;
+    uint8_t bytes[LONGEST_MESSAGE];
+    Written written = {0, bytes};
     put_message(&written, numbers, &names);
-    if (room < written.length)
-        return refused(OUTPUT_SHORT);
-    memcpy(out, written.bytes, written.length);
-    Outcome outcome = {ACCEPTED, written.length};
-    return outcome;
+    return write_out(&written, out, room);
 }

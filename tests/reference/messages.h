@@ -2,16 +2,12 @@
 #ifndef TESTS_REFERENCE_MESSAGES_H
 #define TESTS_REFERENCE_MESSAGES_H
 
-#include "book.h"
+#include "fields.h"
 
-/* "Fields of one-byte tag, two-byte length, content" */
 enum {
-    FIELD_HEAD_BYTES = 3,
     KIND_BYTES = 1,
     PAIR_BYTES = 6, /* "node and sequence in 6 bytes" */
-    LINE_BYTES = 4,
     NUMBERS_BYTES = 3 * FIELD_HEAD_BYTES + KIND_BYTES + 2 * PAIR_BYTES, /* what every message begins with */
-    LONGEST_NAME_FIELD = FIELD_HEAD_BYTES + DEPTH_LIMIT * TUPLE_BYTES,
     LONGEST_MESSAGE = NUMBERS_BYTES + SLOT_LIMIT * LONGEST_NAME_FIELD /* 02, P8: "the longest message is 49,942 bytes" */
 };
 

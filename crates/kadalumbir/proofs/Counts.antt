@@ -1,30 +1,31 @@
 -- The count of every answer is far below 2³², so that it can be packed: `check-page-count` and the others, one for each call.
 -- Assumes nothing.
-use mathlib.Core.Path.{_≡_}
+use mathlib.Core.Path.{_≡_, ap}
 use mathlib.Core.List.{List, [], _∷_, _++_, map, flatten}
 use mathlib.Core.Bool.{Bool, true, false, cond, not, _&&_}
 use mathlib.Core.Option.{Option, none, some}
-use Prim.Native.Nat.{ℕ, suc, _/_, _<_, _≤_}
+use Prim.Native.Nat.{ℕ, suc, _+_, _*_, _/_, _<_, _≤_}
 use native.Mathlib.Omega.{arith}
-use borrow.Author.Tests.{ltb-true}
+use borrow.Author.Tests.{leb-true, ltb-true}
 use lib.Dec.{eqb, leb, ltb}
-use lib.ListN.{length, drop, length-map}
+use lib.ListN.{length, drop, length-map, length-take}
 use Rattle.names.specs.declared.Author.{Author}
 use Rattle.names.specs.Ordering.{Row}
-use Rattle.names.specs.Names.{fits}
+use Rattle.names.specs.Names.{limit, fits}
 use Rattle.name_renames.specs.Renaming.{rename, takeBack}
 use Rattle.numbers.proofs.Bools.{and-0, and-1}
 use Rattle.numbers.specs.Bytes.{Bytes}
 use Rattle.numbers.specs.Lists.{every}
-use Rattle.slots.specs.Slots.{bytesOver, Slot, slotSize, slotBytes, nameOf, slotOf}
+use Rattle.slots.specs.Tuples.{tuplesAt, tupleSize}
+use Rattle.slots.specs.Slots.{headSize, depthOf, bytesOver, Slot, slotSize, slotBytes, nameOf, slotOf}
 use Rattle.answers.specs.declared.Answer.{Answer}
 use Rattle.answers.specs.declared.Answer.the-variants.{Accepted, Refused}
 use Rattle.answers.specs.declared.Refusal.{Refusal}
 use Rattle.answers.specs.declared.Refusal.the-variants.{BadLayout, NotRising, BadLog, TooDeep, Short, Present, Absent, Full, NoNewName, BadTable, Malformed}
-use Rattle.answers.specs.Answers.{Outcome, Test, _else_, inOrder, check, countOf, refuse, accept, write}
+use Rattle.answers.specs.Answers.{Outcome, Test, _else_, inOrder, check, countOf, refuse, accept, write, outcome}
 use Rattle.answers.specs.Laws.{Passed}
 use Rattle.answers.proofs.Refusals.{whichever}
-use Rattle.pages.specs.Pages.{maxSlots, slotsOf, namesOf, pieces, keepsLayout, rises, lineIsZero, isLog, checkPage, checkLog}
+use Rattle.pages.specs.Pages.{maxSlots, partsOf, slotsOf, namesOf, pieces, keepsLayout, rises, lineIsZero, isLog, checkPage, checkLog}
 use Rattle.pages.specs.Places.{has}
 use Rattle.pages.proofs.SlotBySlot.{length-slots}
 use Rattle.pages.proofs.RoundTrip.{laid-over, laid}
@@ -47,9 +48,17 @@ use Rattle.epoch_tree.proofs.AddedEpoch.{added-length}
 use Rattle.epoch_tree.proofs.TableBytes.{checked}
 use Rattle.messages.specs.declared.Numbers.{Numbers}
 use Rattle.messages.specs.Messages.{rename as renameKind, isMessage, messageBytes, mostNames, kindIn, namesPlace, namesIn, keepsMessage}
-use Rattle.messages.specs.Calls.{bare, readOutcome, partsGiven, single, mayWrite, writeOutcome}
+use Rattle.fields.specs.Fields.{single}
+use Rattle.messages.specs.Calls.{bare, readOutcome, partsGiven, mayWrite, writeOutcome}
 use Rattle.messages.proofs.Longest.{no-longer}
 use Rattle.messages.proofs.NameFields.{names-few}
+use Rattle.groups.specs.Groups.{lineSize, alone, grouped}
+use Rattle.groups.specs.Forms.{formBytes, groupHead, slotsOfForm}
+use Rattle.groups.specs.Calls.{formPieces, formTests, pageOf, ample, regrouped, regroup, groupOutcome, ungroupOutcome, insertFormOutcome, removeFormOutcome}
+use Rattle.groups.proofs.GroupBytes.{group-length}
+use Rattle.groups.proofs.FormInverse.{form-none}
+use Rattle.groups.proofs.FormPages.{held}
+use Rattle.groups.proofs.FormSizes.{form-length, no-longer-than-alone}
 use Rattle.kadalumbir.specs.Library.{named}
 
 -- a count that can be packed
@@ -96,20 +105,26 @@ check-table-count s = checks (keepsTable s else BadTable ∷ []) (length (entrie
 
 -- ── lines ──
 
+-- the refusals of insert and of remove, all but 8
+abbrev insertTests : Bytes → Bytes → List Test
+insertTests page slot =
+    editTests page slot ++ (not (has (nameOf slot) (namesOf page)) else Present ∷ ltb (length (slotsOf page)) maxSlots else Full ∷ [])
+
+abbrev removeTests : Bytes → Bytes → List Test
+removeTests page slot = editTests page slot ++ (has (nameOf slot) (namesOf page) else Absent ∷ [])
+
 pub insert-count : (page slot : Bytes) (room : ℕ) → countOf (insertOutcome page slot room .answer) < 4294967296
 unfolding insertOutcome
 insert-count page slot room =
     let l = placed (slotOf slot) (slotsOf page) in
-    let own = not (has (nameOf slot) (namesOf page)) else Present ∷ ltb (length (slotsOf page)) maxSlots else Full ∷ [] in
-    after-tests (editTests page slot ++ own) (write (pieces l) room)
+    after-tests (insertTests page slot) (write (pieces l) room)
     (λ p. slots-count l room (let m = few page (p .0) in let n = length-placed (slotOf slot) (slotsOf page) in omega arith))
 
 pub remove-count : (page slot : Bytes) (room : ℕ) → countOf (removeOutcome page slot room .answer) < 4294967296
 unfolding removeOutcome
 remove-count page slot room =
     let l = without (nameOf slot) (slotsOf page) in
-    let own = has (nameOf slot) (namesOf page) else Absent ∷ [] in
-    after-tests (editTests page slot ++ own) (write (pieces l) room)
+    after-tests (removeTests page slot) (write (pieces l) room)
     (λ p. slots-count l room (let m = few page (p .0) in let n = length-without (nameOf slot) (slotsOf page) in omega arith))
 
 -- ── old pages ──
@@ -228,3 +243,79 @@ read-message-count s room =
     most : (b : Bool) → cond b maxSlots 1 ≤ maxSlots
     most true = omega arith
     most false = omega arith
+
+-- ── forms ──
+
+-- a slot, whatever its bytes, has room for so many tuples and no more
+few-tuples : (s : Bytes) → length (nameOf s) ≤ limit
+few-tuples s = omega (arith, length-take (depthOf s) (tuplesAt s headSize limit))
+
+-- so a group for each slot is no longer than one of the longest name
+alone-length : (l : List Bytes) → length (formBytes (map alone (map slotOf l))) ≤ length l * (groupHead + tupleSize * limit + lineSize)
+alone-length [] = let z = ap length form-none in omega arith
+alone-length (s ∷ l) =
+    let a = alone-length l in
+    let b = form-length (alone (slotOf s)) (map alone (map slotOf l)) in
+    let c = group-length (alone (slotOf s)) in
+    let d = few-tuples s in
+    omega arith
+
+-- and the form of a page, whatever its bytes, has a count that can be packed
+form-count : (page : Bytes) (room : ℕ) → length page ≤ ample → Small (write (formPieces (slotsOf page)) room .answer)
+form-count page room h =
+    wrote (formPieces (slotsOf page)) room (
+    let a = no-longer-than-alone (slotsOf page) in
+    let b = alone-length (partsOf page) in
+    let m = length-map (partsOf page) slotOf in
+    let n = length-slots page in
+    let k = length-map (formBytes (grouped (slotsOf page))) single in
+    omega arith
+    )
+
+pub group-count : (page : Bytes) (room : ℕ) → countOf (groupOutcome page room .answer) < 4294967296
+unfolding groupOutcome
+group-count page room =
+    after-tests (keepsLayout page else BadLayout ∷ rises page else NotRising ∷ []) (write (formPieces (slotsOf page)) room)
+    (λ p. form-count page room (let f = laid page (p .0) .few in let w = laid page (p .0) .whole in omega arith))
+
+pub ungroup-count : (form : Bytes) (room : ℕ) → countOf (ungroupOutcome form room .answer) < 4294967296
+unfolding ungroupOutcome
+ungroup-count form room =
+    after-tests (formTests form) (write (pieces (slotsOfForm form)) room)
+    (λ p. slots-count (slotsOfForm form) room (let f = held form p .few in omega arith))
+
+-- what a call writes has room in its output
+in-room : (tests : List Test) (l : List Bytes) (room : ℕ) → length (outcome tests l room .bytes) ≤ room
+in-room tests l room =
+    whichever (λ x. length (x .bytes) ≤ room) refuse (write l room) (λ r. omega arith) tests (λ p.
+    whichever (λ x. length (x .bytes) ≤ room) refuse (accept l) (λ r. omega arith) (leb (length (flatten l)) room else Short ∷ []) (λ q.
+    leb-true (length (flatten l)) room (q .0)
+    ))
+
+-- so a page that was edited is grouped again with a count that can be packed
+regroup-count : (x : Outcome) (room : ℕ) → length (x .bytes) ≤ ample → Small (regroup x room .answer)
+regroup-count x room h = by (x .answer)
+  where
+    by : (a : Answer) → Small (regrouped a (x .bytes) room .answer)
+    by (Refused r) = refuses r
+    by (Accepted n) = form-count (x .bytes) room h
+
+insert-in-room : (page slot : Bytes) (room : ℕ) → length (insertOutcome page slot room .bytes) ≤ room
+unfolding insertOutcome
+insert-in-room page slot room = in-room (insertTests page slot) (pieces (placed (slotOf slot) (slotsOf page))) room
+
+remove-in-room : (page slot : Bytes) (room : ℕ) → length (removeOutcome page slot room .bytes) ≤ room
+unfolding removeOutcome
+remove-in-room page slot room = in-room (removeTests page slot) (pieces (without (nameOf slot) (slotsOf page))) room
+
+pub insert-form-count : (form slot : Bytes) (room : ℕ) → countOf (insertFormOutcome form slot room .answer) < 4294967296
+unfolding insertFormOutcome
+insert-form-count form slot room =
+    let x = insertOutcome (pageOf form) slot ample in
+    after-tests (formTests form) (regroup x room) (λ p. regroup-count x room (insert-in-room (pageOf form) slot ample))
+
+pub remove-form-count : (form slot : Bytes) (room : ℕ) → countOf (removeFormOutcome form slot room .answer) < 4294967296
+unfolding removeFormOutcome
+remove-form-count form slot room =
+    let x = removeOutcome (pageOf form) slot ample in
+    after-tests (formTests form) (regroup x room) (λ p. regroup-count x room (remove-in-room (pageOf form) slot ample))

@@ -18,6 +18,10 @@ use Rattle.kadalumbir.proofs.kadalumbir_next_step.Reads as next-step
 use Rattle.kadalumbir.proofs.kadalumbir_add_epoch.Reads as add-epoch
 use Rattle.kadalumbir.proofs.kadalumbir_write_message.Reads as write-message
 use Rattle.kadalumbir.proofs.kadalumbir_read_message.Reads as read-message
+use Rattle.kadalumbir.proofs.kadalumbir_group.Reads as group
+use Rattle.kadalumbir.proofs.kadalumbir_ungroup.Reads as ungroup
+use Rattle.kadalumbir.proofs.kadalumbir_group_insert.Reads as group-insert
+use Rattle.kadalumbir.proofs.kadalumbir_group_remove.Reads as group-remove
 
 pub check-page-settled : (κs : _) (a : _) (r : _) (s : _) (r' : _) (s' : _) → check-page.Learnt κs a r s → check-page.Learnt κs a r' s' → r ≡ r'
 check-page-settled κs a r s r' s' p q = one p q
@@ -60,3 +64,15 @@ write-message-settled κs a r s r' s' p q = (one (p .0) (q .0), one (p .1) (q .1
 
 pub read-message-settled : (κs : _) (a : _) (r : _) (s : _) (r' : _) (s' : _) → read-message.Learnt κs a r s → read-message.Learnt κs a r' s' → (r ≡ r') × (numbers (now (s .1 .0)) (now (s .1 .1 .0)) (now (s .1 .1 .1 .0)) (now (s .1 .1 .1 .1 .0)) (now (s .1 .1 .1 .1 .1 .0)) (now (s .1 .1 .1 .1 .1 .1 .0)) ≡ numbers (now (s' .1 .0)) (now (s' .1 .1 .0)) (now (s' .1 .1 .1 .0)) (now (s' .1 .1 .1 .1 .0)) (now (s' .1 .1 .1 .1 .1 .0)) (now (s' .1 .1 .1 .1 .1 .1 .0))) × (now (s .1 .1 .1 .1 .1 .1 .1 .0) ≡ now (s' .1 .1 .1 .1 .1 .1 .1 .0))
 read-message-settled κs a r s r' s' p q = (one (p .0) (q .0), one (p .1 .0) (q .1 .0), one (p .1 .1) (q .1 .1))
+
+pub group-settled : (κs : _) (a : _) (r : _) (s : _) (r' : _) (s' : _) → group.Learnt κs a r s → group.Learnt κs a r' s' → (r ≡ r') × (now (s .1 .0) ≡ now (s' .1 .0))
+group-settled κs a r s r' s' p q = (one (p .0) (q .0), one (p .1) (q .1))
+
+pub ungroup-settled : (κs : _) (a : _) (r : _) (s : _) (r' : _) (s' : _) → ungroup.Learnt κs a r s → ungroup.Learnt κs a r' s' → (r ≡ r') × (now (s .1 .0) ≡ now (s' .1 .0))
+ungroup-settled κs a r s r' s' p q = (one (p .0) (q .0), one (p .1) (q .1))
+
+pub group-insert-settled : (κs : _) (a : _) (r : _) (s : _) (r' : _) (s' : _) → group-insert.Learnt κs a r s → group-insert.Learnt κs a r' s' → (r ≡ r') × (now (s .1 .1 .0) ≡ now (s' .1 .1 .0))
+group-insert-settled κs a r s r' s' p q = (one (p .0) (q .0), one (p .1) (q .1))
+
+pub group-remove-settled : (κs : _) (a : _) (r : _) (s : _) (r' : _) (s' : _) → group-remove.Learnt κs a r s → group-remove.Learnt κs a r' s' → (r ≡ r') × (now (s .1 .1 .0) ≡ now (s' .1 .1 .0))
+group-remove-settled κs a r s r' s' p q = (one (p .0) (q .0), one (p .1) (q .1))

@@ -11,6 +11,7 @@ ghost use Rattle.old_pages.specs.OldPages.{fromOldOutcome, toOldOutcome};
 ghost use Rattle.page_renames.specs.Renames.{renameOutcome, takeBackOutcome};
 ghost use Rattle.epochs.specs.Calls.{checkTable, numberIn, indexIn, answerOf, nextStepOutcome, addOutcome};
 ghost use Rattle.messages.specs.Calls.{readOutcome, numbersRead, writeOutcome};
+ghost use Rattle.groups.specs.Calls.{groupOutcome, ungroupOutcome, insertFormOutcome, removeFormOutcome};
 ghost use Rattle.kadalumbir.specs.Library.{packed, named, newSlotOutcome, numbers};
 use answers::Answer;
 use answers::Refusal;
@@ -246,4 +247,38 @@ pub extern "C" fn kadalumbir_read_message(
     *author_sequence = author.sequence;
     *line = numbers.line;
     pack(answer)
+}
+
+// ── forms ──
+
+#[no_mangle]
+pub extern "C" fn kadalumbir_group(page: &[u8], out: &mut [u8]) -> u64
+    ensures { λ r. ⌜ r ≡ packed (groupOutcome (now (page .entry)) (length (now (out .entry))) .answer) ⌝ }
+    ensures { λ r. ⌜ now (out .exit) ≡ leaves (groupOutcome (now (page .entry)) (length (now (out .entry)))) (now (out .entry)) ⌝ }
+{
+    pack(grouping::group(page, out))
+}
+
+#[no_mangle]
+pub extern "C" fn kadalumbir_ungroup(form: &[u8], out: &mut [u8]) -> u64
+    ensures { λ r. ⌜ r ≡ packed (ungroupOutcome (now (form .entry)) (length (now (out .entry))) .answer) ⌝ }
+    ensures { λ r. ⌜ now (out .exit) ≡ leaves (ungroupOutcome (now (form .entry)) (length (now (out .entry)))) (now (out .entry)) ⌝ }
+{
+    pack(grouping::ungroup(form, out))
+}
+
+#[no_mangle]
+pub extern "C" fn kadalumbir_group_insert(form: &[u8], slot: &[u8], out: &mut [u8]) -> u64
+    ensures { λ r. ⌜ r ≡ packed (insertFormOutcome (now (form .entry)) (now (slot .entry)) (length (now (out .entry))) .answer) ⌝ }
+    ensures { λ r. ⌜ now (out .exit) ≡ leaves (insertFormOutcome (now (form .entry)) (now (slot .entry)) (length (now (out .entry)))) (now (out .entry)) ⌝ }
+{
+    pack(form_edits::insert(form, slot, out))
+}
+
+#[no_mangle]
+pub extern "C" fn kadalumbir_group_remove(form: &[u8], slot: &[u8], out: &mut [u8]) -> u64
+    ensures { λ r. ⌜ r ≡ packed (removeFormOutcome (now (form .entry)) (now (slot .entry)) (length (now (out .entry))) .answer) ⌝ }
+    ensures { λ r. ⌜ now (out .exit) ≡ leaves (removeFormOutcome (now (form .entry)) (now (slot .entry)) (length (now (out .entry)))) (now (out .entry)) ⌝ }
+{
+    pack(form_edits::remove(form, slot, out))
 }
