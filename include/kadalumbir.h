@@ -192,7 +192,7 @@ uint64_t kadalumbir_write_message(uint8_t kind, uint16_t epoch_node, uint32_t ep
 
 /* Sets kind, epoch, author and line number (0 unless insert), and writes the names, in slots with line number 0. The count
  * is that of the slots. A message has one writing, so that writing what was read gives the same bytes.
- * Refuses 15, 8. Stack: 200 bytes. */
+ * Refuses 15, 8. Stack: 170 bytes. */
 uint64_t kadalumbir_read_message(const uint8_t *message, size_t message_len, uint8_t *kind, uint16_t *epoch_node,
                                  uint32_t *epoch_sequence, uint16_t *author_node, uint32_t *author_sequence,
                                  uint32_t *line, uint8_t *out, size_t out_len);
