@@ -129,26 +129,11 @@ pub extern "C" fn kadalumbir_rename(
     node: u16,
     sequence: u32,
     out: &mut [u8],
-    kept_below: &mut u32,
-    put_below: &mut u32,
-    logged: &mut u32,
-    between: &mut u32,
-    put_above: &mut u32,
-    kept_above: &mut u32,
 ) -> u64
     ensures value { result ≡ packed (rename_outcome page.now log.now (record { node = node; sequence = sequence }) (length out.old)).answer }
     ensures out_after { out.new ≡ leaves (rename_outcome page.now log.now (record { node = node; sequence = sequence }) (length out.old)) out.old }
 {
-    let renamed = page_renames::rename(page, log, Author { node, sequence }, out);
-    let answer = renamed.answer;
-    let counts = renamed.counts;
-    *kept_below = counts.kept_below;
-    *put_below = counts.put_below;
-    *logged = counts.logged;
-    *between = counts.between;
-    *put_above = counts.put_above;
-    *kept_above = counts.kept_above;
-    pack(answer)
+    pack(page_renames::rename(page, log, Author { node, sequence }, out))
 }
 
 #[unsafe(no_mangle)]

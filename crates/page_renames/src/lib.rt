@@ -17,7 +17,6 @@ ghost use Rattle.one_name.specs.Markers.{unmarked_from};
 ghost use Rattle.page_renames.specs.Renames.{carry, carried, all_fit, opening_tests, rename_tests, take_back_tests, rename_outcome, take_back_outcome};
 
 use answers::{Answer, Refusal};
-use name_renames::Case;
 use names::{Author, LIMIT};
 use one_name::Stem;
 use slots::{HEAD, SLOT, Seen, Span};
@@ -87,56 +86,16 @@ fn all_renamed_fit(page: &[u8], log: &[u8], author: Author) -> bool
     true
 }
 
-// ── the counts ──
-
-// 02, P3: "six counts, each the number of names that its row takes", in the order of 01's table.
-#[derive(Drop)]
-pub struct Counts {
-    pub kept_below: u32,
-    pub put_below: u32,
-    pub logged: u32,
-    pub between: u32,
-    pub put_above: u32,
-    pub kept_above: u32,
-}
-
-// "six zeros"
-fn no_counts() -> Counts {
-    Counts {
-        kept_below: 0,
-        put_below: 0,
-        logged: 0,
-        between: 0,
-        put_above: 0,
-        kept_above: 0,
-    }
-}
-
-// The counts with one name more, whose case this is.
-fn one_more(counts: Counts, case: Case) -> Counts {
-    let mut c = counts;
-    match case {
-        Case::KeepBelow => c.kept_below += 1,
-        Case::PutBelow => c.put_below += 1,
-        Case::Logged(_) => c.logged += 1,
-        Case::Between(_) => c.between += 1,
-        Case::PutAbove(_) => c.put_above += 1,
-        Case::KeepAbove => c.kept_above += 1,
-    }
-    c
-}
-
 // ── writing ──
 
 // The page renamed, from the start of out. Page and log are walked side by side. An accepted rename's names rise, so that nothing is compared
 // here: page_renames/specs/Laws.antt, rename_page.
-fn write_renamed(page: &[u8], log: &[u8], author: Author, out: &mut [u8]) -> Counts
+fn write_renamed(page: &[u8], log: &[u8], author: Author, out: &mut [u8])
     requires page_value { (keeps_layout page.now ≡ true) × (rises page.now ≡ true) × (is_log log.now ≡ true) × (length page.now ≤ length out.old) }
     requires page_value_2 { all_fit (rename_row author (names_of log.now)) page.now ≡ true }
     ensures { out.new ≡ put out.old 0 (flatten (pieces (carried (rename_row author (names_of log.now)) (slots_of page.now)))) }
 {
     let n = page.len() / SLOT;
-    let mut counts = no_counts();
     let mut i: usize = 0;
     let mut j: usize = 0;
     while i < n {
@@ -146,11 +105,9 @@ fn write_renamed(page: &[u8], log: &[u8], author: Author, out: &mut [u8]) -> Cou
         let case = w.case;
         let change = one_name::change_of(log, author, case);
         renamed_slots::write_changed(out, at, &page[at..end], change);
-        counts = one_more(counts, case);
         j = w.below;
         i += 1;
     }
-    counts
 }
 
 // Slot i of the page taken back, at its place in out. Where the name is known to be taken back alone, it is not compared with the log again.
@@ -363,41 +320,22 @@ fn check_names(page: &[u8], log: &[u8], author: Author, alone: bool) -> Checked
     check_back(page, log, author)
 }
 
-// What a rename answers beside what it writes: how many names each row of 01's table took.
-#[derive(Drop)]
-pub struct Renamed {
-    pub answer: Answer,
-    pub counts: Counts,
-}
-
-// "A refusal reports six zeros."
-fn not_renamed(refusal: Refusal) -> Renamed {
-    let counts = no_counts();
-    Renamed {
-        answer: Answer::Refused(refusal),
-        counts,
-    }
-}
-
 // 5, 6, 8; else the page renamed. Nothing is written before every refusal is ruled out.
-fn rename_checked(page: &[u8], log: &[u8], author: Author, out: &mut [u8]) -> Renamed
+fn rename_checked(page: &[u8], log: &[u8], author: Author, out: &mut [u8]) -> Answer
     requires { in_order (opening_tests page.now log.now author) Checked.Refused Checked.Passed ≡ Checked.Passed }
     ensures value { result ≡ (rename_outcome page.now log.now author (length out.old)).answer }
     ensures out_after { out.new ≡ leaves (rename_outcome page.now log.now author (length out.old)) out.old }
 {
     let checked = check_rename(page, log, author);
     match checked {
-        Checked::Refused(r) => not_renamed(r),
+        Checked::Refused(r) => Answer::Refused(r),
         Checked::Passed => {
             if out.len() < page.len() {
-                return not_renamed(Refusal::Short);
+                return Answer::Refused(Refusal::Short);
             }
-            let counts = write_renamed(page, log, author, out);
+            write_renamed(page, log, author, out);
             let renamed = page.len() / SLOT;
-            Renamed {
-                answer: Answer::Accepted(renamed),
-                counts,
-            }
+            Answer::Accepted(renamed)
         }
     }
 }
@@ -424,13 +362,13 @@ fn take_back_checked(page: &[u8], log: &[u8], author: Author, out: &mut [u8]) ->
 }
 
 // 1, 2, 3, 4, 5, 6, 8; else the page with its names renamed.
-pub fn rename(page: &[u8], log: &[u8], author: Author, out: &mut [u8]) -> Renamed
+pub fn rename(page: &[u8], log: &[u8], author: Author, out: &mut [u8]) -> Answer
     ensures value { result ≡ (rename_outcome page.now log.now author (length out.old)).answer }
     ensures out_after { out.new ≡ leaves (rename_outcome page.now log.now author (length out.old)) out.old }
 {
     let checked = check(page, log, author);
     match checked {
-        Checked::Refused(r) => not_renamed(r),
+        Checked::Refused(r) => Answer::Refused(r),
         Checked::Passed => rename_checked(page, log, author, out),
     }
 }
