@@ -1,10 +1,13 @@
 // What comes back: the answers of 01's table, each with its number and count. Document 01, "What comes back"; the definitions are in
 // specs/.
+
+#![tactic(auto)]
+
 ghost use Rattle.std.specs.Prelude.{◌≡◌};
 ghost use Rattle.answers.specs.Answers.{refusal_number, number_of, count_of};
 
 // What is refused, in the order of 01's table, each under its number.
-#[derive(Drop)]
+#[derive(Clone, Copy)]
 pub enum Refusal {
     // 1: a page (its order apart) or given slot breaks its layout.
     BadLayout,
@@ -45,7 +48,7 @@ pub enum Refusal {
 }
 
 // What comes back: 0 with the count of slots, entries or bytes written, or a refusal.
-#[derive(Drop)]
+#[derive(Clone, Copy)]
 pub enum Answer {
     Accepted(usize),
     Refused(Refusal),

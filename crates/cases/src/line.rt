@@ -32,7 +32,7 @@ pub(crate) fn begins(line: &[u8], word: &[u8]) -> bool {
 }
 
 // A number, the byte that ends it, and the place after that.
-#[derive(Drop)]
+#[derive(Clone, Copy)]
 pub(crate) struct Read {
     pub(crate) value: u32,
     pub(crate) end: u8,

@@ -13,6 +13,9 @@
 //   level INDEX                     the same of these with equal counts
 //
 // A name is written as the listing shows it; a line has three at most.
+
+#![tactic(auto)]
+
 mod asked;
 mod line;
 

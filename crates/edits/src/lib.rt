@@ -1,4 +1,7 @@
 // Insert and remove. Document 01, "Taking it back", last paragraph, and "What comes back"; the definitions are in specs/.
+
+#![tactic(auto)]
+
 ghost use Rattle.std.specs.Prelude.{◌≡◌, true, ◌++◌, ◌+◌, ◌*◌, ◌≤◌, ◌<◌, length, take, drop};
 ghost use Rattle.numbers.specs.Bytes.{put};
 ghost use Rattle.slots.specs.Slots.{slot_size, name_of, keeps_slot};
@@ -35,7 +38,7 @@ fn write_without(page: &[u8], k: usize, out: &mut [u8])
 }
 
 // What stands before an edit: a refusal, or none so far.
-#[derive(Drop)]
+#[derive(Clone, Copy)]
 enum Checked {
     Refused(Refusal),
     Passed,

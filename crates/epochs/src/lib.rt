@@ -1,6 +1,9 @@
 // Epochs: the table and its check, the tree, the target, the next step and adding an epoch. Document 01, "Pages, logs, epochs",
 // "Epoch tree" and "What comes back", with 02's P1. What a table and its tree are is defined in epoch_tree/specs, what the calls give in
 // specs/. An epoch is the index of its entry in the table.
+
+#![tactic(auto)]
+
 ghost use Rattle.std.specs.Prelude.{◌≡◌, true, cond, not, ◌+◌, ◌/◌, ◌≤◌, ◌<◌, length, take, drop, get_or};
 ghost use Rattle.names.specs.declared.Order.TheVariants.{Less, More};
 ghost use Rattle.names.specs.Ordering.{then, is_less};
@@ -341,7 +344,7 @@ fn target(tree: &[u8; TABLE], size: usize) -> usize
 // ── the next step ──
 
 // What comes back of a question for the next step.
-#[derive(Drop)]
+#[derive(Clone, Copy)]
 pub enum Next {
     Take(Step),
     Refused(Refusal),

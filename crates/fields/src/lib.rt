@@ -1,5 +1,8 @@
 // "Fields of one-byte tag, two-byte length, content": document 01, "Messages". What the tags and the contents are is said by who uses
 // them. The definitions are in specs/.
+
+#![tactic(auto)]
+
 ghost use Rattle.std.specs.Prelude.{◌≡◌, ◌∷◌, ◌+◌, ◌≤◌, length, drop};
 ghost use Rattle.numbers.specs.Bytes.{bytes16, put};
 ghost use Rattle.fields.specs.Fields.{field_head, longest_content, size_in, stands};
@@ -12,7 +15,7 @@ const SIZE: usize = 1;
 // ── reading ──
 
 // A place in some bytes. What stands there is said of the bytes from there on.
-#[derive(Drop)]
+#[derive(Clone, Copy)]
 pub struct Cursor {
     pub at: usize,
 }

@@ -1,6 +1,9 @@
 // A change of a form, in its bytes: those between two places give way to a given slot or to nothing, the group before has another number of slots then, and
 // what follows goes on as a group of its own or in the one before. 02, P2: "splitting and joining". What a change is, is in specs/; which one an edit makes is
 // said by `form_edits`.
+
+#![tactic(auto)]
+
 ghost use Rattle.std.specs.Prelude.{◌≡◌, cond, [], map, ◌+◌, ◌*◌, ◌≤◌, length, eqb};
 ghost use Rattle.names.specs.Names.{limit};
 ghost use Rattle.numbers.specs.Bytes.{put};
@@ -16,7 +19,7 @@ use slots::{Span, TUPLE};
 
 // What stands before the line numbers of a group: its first name, which comes `onward` after the one at `name`, and how many slots it has. Without slots
 // nothing stands there.
-#[derive(Drop)]
+#[derive(Clone, Copy)]
 pub struct Head {
     pub name: Span,
     pub onward: u32,
@@ -25,7 +28,7 @@ pub struct Head {
 
 // The bytes from `from` up to `to` give way. Of those before, the group whose line numbers begin at `lines` has `count` slots then; with 0 they stay as they
 // are. Those after are of a group with the head `rest`, or without one go on in the group before.
-#[derive(Drop)]
+#[derive(Clone, Copy)]
 pub struct Change {
     pub from: usize,
     pub to: usize,

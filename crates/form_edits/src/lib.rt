@@ -1,6 +1,9 @@
 // Insert and remove on a page's grouped form, in its bytes: groups are split and joined where they stand, and no page is made. 02, P2: "Insert
 // and remove should also work on the grouped form, splitting and joining, and agree with the page." What they give is defined in `groups`;
 // how the code speaks of a place and of a change is in specs/.
+
+#![tactic(auto)]
+
 ghost use Rattle.std.specs.Prelude.{◌≡◌, true, false, cond, ◌+◌, ◌≤◌, ◌<◌, length, drop};
 ghost use Rattle.names.specs.Ordering.{compare_rows};
 ghost use Rattle.names.specs.Names.{is_name};
@@ -63,7 +66,7 @@ fn after_place(block: Block) -> usize
 
 // Where a name stands in a group whose first name is not above it: it is the name of that slot, it lies before that slot, within the group, or
 // it is above them all, and would go on with the run or not.
-#[derive(Drop)]
+#[derive(Clone, Copy)]
 enum Met {
     Here(usize),
     Inside(usize),
@@ -112,7 +115,7 @@ fn meet(form: &[u8], block: Block, slot: &[u8], name: Span) -> Met
 // ── insert ──
 
 // How a slot is put into a form: the change, and the head of its name, of as many slots as it begins.
-#[derive(Drop)]
+#[derive(Clone, Copy)]
 struct Insertion {
     head: Head,
     change: Change,
@@ -459,7 +462,7 @@ fn remove_from(form: &[u8], place: Place, slot: &[u8], name: Span, out: &mut [u8
 // ── the calls ──
 
 // What stands before an edit: a refusal, or none so far.
-#[derive(Drop)]
+#[derive(Clone, Copy)]
 enum Checked {
     Refused(Refusal),
     Passed,

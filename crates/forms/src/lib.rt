@@ -1,5 +1,8 @@
 // Forms in bytes: a group read where it stands, one look at a whole form, and what stands before a group's line numbers written. 02, P2;
 // what a group and a form are is defined in `groups`, how the code speaks of them in specs/.
+
+#![tactic(auto)]
+
 ghost use Rattle.std.specs.Prelude.{◌≡◌, true, ◌+◌, ◌*◌, ◌-◌, ◌≤◌, ◌<◌, length, drop};
 ghost use Rattle.names.specs.Names.{is_name};
 ghost use Rattle.numbers.specs.Bytes.{at32, put};
@@ -17,7 +20,7 @@ use runs::{OFFSET_SIZE, Stand};
 use slots::{Span, TUPLE};
 
 // A group where it stands in a form: its first name, where its line numbers stand, and how many slots it has. Where none stands all is zero.
-#[derive(Drop)]
+#[derive(Clone, Copy)]
 pub struct Block {
     pub stands: bool,
     pub name: Span,
@@ -169,7 +172,7 @@ fn group_ok(form: &[u8], block: Block) -> bool
 }
 
 // How a name comes after a group: as the next of its run, above its last name, or not.
-#[derive(Drop)]
+#[derive(Clone, Copy)]
 enum After {
     Joins,
     Falls,
@@ -218,7 +221,7 @@ fn after_block(form: &[u8], last: Block, name: Span) -> After
 
 // How many groups, from the first on, have a first name that is not above a given one, and where the last of them begins and the one before
 // it. It is sought until a group's first name is above.
-#[derive(Drop)]
+#[derive(Clone, Copy)]
 pub struct Place {
     pub sought: bool,
     pub groups: usize,
@@ -272,7 +275,7 @@ fn seek(form: &[u8], first: Span, at: usize, slot: &[u8], name: Span, place: Pla
 
 // What one look at a form tells: whether it is one, its order and the number of its slots apart; whether its names rise; how many slots it
 // has; and where a name would stand. Of what is no form, zeros.
-#[derive(Drop)]
+#[derive(Clone, Copy)]
 pub struct Looked {
     pub ok: bool,
     pub rises: bool,

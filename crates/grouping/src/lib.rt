@@ -1,4 +1,7 @@
 // A page as its grouped form and back: 02, P2. What grouping and ungrouping give is defined in `groups`.
+
+#![tactic(auto)]
+
 ghost use Rattle.std.specs.Prelude.{◌≡◌, true, ◌+◌, ◌*◌, ◌-◌, ◌≤◌, ◌<◌, length, take, drop, get_or, leb};
 ghost use mathlib.Core.List.{[], map, flatten};
 ghost use Rattle.numbers.specs.Bytes.{put};

@@ -1,6 +1,9 @@
 // Groups and the grouped form of a page: 02, P2. The definitions of groups, of the form's bytes and of what the four calls give are in
 // specs/, with what holds of them (specs/Laws.antt). `forms` reads and checks a form, `grouping` makes one of a page and back, and
 // `form_edits` edits one. Here are the numbers of the layout.
+
+#![tactic(auto)]
+
 use fields::FIELD;
 
 // "tag 6 a name, tag 7 a length of two bytes, tag 8 the line numbers, four bytes each"

@@ -1,5 +1,8 @@
 // The library that firmware links: each function calls one function of the crates below and packs what comes back. Everything is
 // checked by the callee. The header is include/kadalumbir.h.
+
+#![tactic(auto)]
+
 ghost use Rattle.std.specs.Prelude.{◌≡◌, ◌<◌, length};
 ghost use Rattle.names.specs.Names.{row_of};
 ghost use Rattle.answers.specs.Answers.{count_of, leaves};

@@ -1,5 +1,8 @@
 // The listing program: a page from standard input, its listing to standard output. Document 01, "Cases". Everything that
 // decides anything is in `listing_text`; here it is read and written.
+
+#![tactic(auto)]
+
 use libc::{STDIN_FILENO, STDOUT_FILENO};
 use listing_text::TEXT;
 

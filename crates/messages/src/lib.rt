@@ -1,5 +1,8 @@
 // What a message says and which numbers can be said: document 01, "Messages". The definitions of a message, and of what reading and
 // writing one give, are in specs/, with what holds of them (specs/Laws.antt). `read_messages` reads and `write_messages` writes.
+
+#![tactic(auto)]
+
 ghost use Rattle.std.specs.Prelude.{◌≡◌, ◌&&◌};
 ghost use Rattle.messages.specs.Messages.{is_kind, is_epoch, is_author, is_line, most_names};
 
@@ -9,7 +12,7 @@ use pages::SLOTS;
 
 // "Reading gives kind, epoch, author, line number (0 unless insert) and the names": all of it but the names. An epoch goes by the
 // author of the rename that began it, the first epoch by zeros.
-#[derive(Drop)]
+#[derive(Clone, Copy)]
 pub struct Numbers {
     pub kind: u8,
     pub epoch: Author,

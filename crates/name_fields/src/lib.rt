@@ -1,5 +1,8 @@
 // Names in fields, read where they stand and written: document 01, "Messages": "a name's tuples, 12 bytes each". The definitions are in
 // specs/.
+
+#![tactic(auto)]
+
 ghost use Rattle.std.specs.Prelude.{◌≡◌, ◌+◌, ◌≤◌, length, drop};
 ghost use Rattle.numbers.specs.Bytes.{put};
 ghost use Rattle.slots.specs.Tuples.{row_at, Lies};
@@ -9,7 +12,7 @@ use fields::{Cursor, FIELD};
 use slots::{Span, TUPLE};
 
 // What stands at a cursor: the whole field of a name, with how many tuples it has, or none.
-#[derive(Drop)]
+#[derive(Clone, Copy)]
 pub enum NameField {
     Tuples(usize),
     Nothing,

@@ -1,8 +1,11 @@
 // Renaming names and taking a rename back: definitions and theorems, and the cases of 01's table as a type. No function.
 // Document 01, "Renaming one name" and "Taking it back".
 
+#![tactic(auto)]
+
+
 // The cases of 01's table "Name x | Becomes", in its order, those that say N(k) with their k.
-#[derive(Drop)]
+#[derive(Clone, Copy)]
 pub enum Case {
     // | below r0 and below N(0) | x |
     KeepBelow,

@@ -1,5 +1,8 @@
 // Names made by value: the empty one, one tuple more, two joined, one below. Document 01, "Names"; the definitions are in
 // crates/names.
+
+#![tactic(auto)]
+
 ghost use Rattle.std.specs.Prelude.{◌≡◌, [], ◌∷◌, ◌++◌, true, ◌+◌, ◌≤◌, ◌<◌, length};
 ghost use Rattle.std.proofs.Math.IntN.{pred_ℤ};
 ghost use Rattle.std.specs.Int.Signed.{non_neg};

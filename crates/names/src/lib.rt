@@ -1,4 +1,7 @@
 // Names of lines and their order. Document 01, "Names"; the definitions are in specs/.
+
+#![tactic(auto)]
+
 ghost use Rattle.std.specs.Prelude.{◌≡◌, min, ◌≤◌, length};
 ghost use Rattle.names.specs.Names.{limit, row_of};
 ghost use Rattle.names.specs.Ordering.{is_less, is_same, compare_ℕ, compare_ℤ, then, compare_tuples, compare_rows};
@@ -6,7 +9,7 @@ ghost use Rattle.names.specs.Ordering.{is_less, is_same, compare_ℕ, compare_�
 // The most tuples that a name has. 02, P8: "Raise the depth limit to sixteen."
 pub const LIMIT: usize = 16;
 
-#[derive(Drop)]
+#[derive(Clone, Copy)]
 pub struct Tuple {
     pub position: u16,
     pub node: u16,
@@ -16,27 +19,27 @@ pub struct Tuple {
 
 // "A name is a row of at most eight tuples, passed as a whole" (02, P8: sixteen): the first depth of the tuples are the name's. A
 // depth above LIMIT counts as LIMIT.
-#[derive(Drop)]
+#[derive(Clone, Copy)]
 pub struct Name {
     pub depth: usize,
     pub tuples: [Tuple; LIMIT],
 }
 
 // "author (A, s)": whoever renames a book, or makes a name.
-#[derive(Drop)]
+#[derive(Clone, Copy)]
 pub struct Author {
     pub node: u16,
     pub sequence: u32,
 }
 
 // What has become of names, as two rows joined: whether it has at most LIMIT tuples, and the name, of no tuples where it has more.
-#[derive(Drop)]
+#[derive(Clone, Copy)]
 pub struct Joined {
     pub fits: bool,
     pub name: Name,
 }
 
-#[derive(Drop)]
+#[derive(Clone, Copy)]
 pub enum Order {
     Less,
     Same,

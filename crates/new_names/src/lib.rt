@@ -1,5 +1,8 @@
 // New names: a name for a gap of a page, whose neighbours are looked at where they stand. Document 01, "New names"; the
 // definitions are in specs/.
+
+#![tactic(auto)]
+
 ghost use Rattle.std.specs.Prelude.{◌≡◌, [], ◌∷◌, ◌++◌, cond, ◌+◌, ◌≤◌, ◌<◌, drop, get_or};
 ghost use Rattle.std.proofs.Math.Option.{none, some};
 ghost use Rattle.names.specs.Names.{limit, value_of, m};
@@ -22,7 +25,7 @@ const HIGHEST: u32 = 65535;
 const MIDDLE: u16 = 32768;
 
 // What comes back: the answer, and the name, which a refusal does not have.
-#[derive(Drop)]
+#[derive(Clone, Copy)]
 pub struct NewName {
     pub answer: Answer,
     pub name: Name,
@@ -30,7 +33,7 @@ pub struct NewName {
 
 // What the rule finds before a name is made: the answer, and of what the name is made: of the tuples that stand at `a` and two more,
 // the first `depth`.
-#[derive(Drop)]
+#[derive(Clone, Copy)]
 struct Parts {
     answer: Answer,
     a: Span,

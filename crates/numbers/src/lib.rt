@@ -1,5 +1,8 @@
 // Numbers as bytes: read, written and copied at a place in a slice. Document 01, "Pages, logs, epochs": "All numbers are
 // big-endian, offsets in two's complement"; the definitions are in specs/.
+
+#![tactic(auto)]
+
 ghost use Rattle.std.specs.Prelude.{◌≡◌, ◌+◌, ◌*◌, ◌/◌, ◌%◌, ◌≤◌, ◌<◌, length, get_or, replicate};
 ghost use Rattle.numbers.specs.Bytes.{at16, at32, at64, signed, unsigned, bytes16, bytes32, put};
 

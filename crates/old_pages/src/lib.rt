@@ -1,4 +1,7 @@
 // Pages of before the limit was sixteen tuples, and their conversion to pages and back. Document 02, P8; the definitions are in specs/.
+
+#![tactic(auto)]
+
 ghost use Rattle.std.specs.Prelude.{◌≡◌, true, ◌*◌, ◌/◌, ◌≤◌, length};
 ghost use mathlib.Core.List.{flatten};
 ghost use Rattle.numbers.specs.Bytes.{put};

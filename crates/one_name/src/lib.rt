@@ -1,5 +1,8 @@
 // One name renamed and one taken back, over a log in its bytes: what becomes of a name is found where the name stands in bytes. What comes of it
 // is made by value here, and as a slot by crates/renamed_slots. Document 01, "Renaming one name" and "Taking it back"; the definitions are those of crates/name_renames.
+
+#![tactic(auto)]
+
 ghost use Rattle.std.specs.Prelude.{◌≡◌, [], ◌∷◌, ◌++◌, true, ◌&&◌, ◌+◌, ◌-◌, ◌*◌, ◌≤◌, ◌<◌, max, min, pos, length, take, drop, get_or};
 ghost use Rattle.std.specs.Int.Signed.{non_neg};
 ghost use Rattle.names.specs.Ordering.{compare_rows, is_less, is_same, ◌≤ⁿ◌};
@@ -231,7 +234,7 @@ fn place_from(log: &[u8], s: &[u8], x: Span, j: usize) -> Place
 }
 
 // The case of 01's table for a name, and how many names of the log are below it.
-#[derive(Drop)]
+#[derive(Clone, Copy)]
 pub struct Walked {
     pub below: usize,
     pub case: Case,
@@ -251,7 +254,7 @@ pub fn walk(log: &[u8], author: Author, s: &[u8], x: Span, j: usize) -> Walked
 }
 
 // What a case of 01's table does to a name x.
-#[derive(Drop)]
+#[derive(Clone, Copy)]
 pub enum Change {
     // x stays.
     Kept,
@@ -316,7 +319,7 @@ pub fn rename_name(log: &[u8], author: Author, x: Name) -> Joined
 // ── taking one name back: the shape ──
 
 // What 01's bullets come to. v is c without its first tuples, so many: c itself, or what follows its first tuple.
-#[derive(Drop)]
+#[derive(Clone, Copy)]
 pub enum Back {
     // r(k)
     Restored(usize),
@@ -493,7 +496,7 @@ pub fn back_of(log: &[u8], author: Author, s: &[u8], c: Span) -> Back
 
 // What a name that is taken back is made at: r(k), where it is r(k) itself or is put behind it or ahead of it; else its own tuples. And how many tuples
 // it then has.
-#[derive(Drop)]
+#[derive(Clone, Copy)]
 pub struct Stem {
     pub behind: bool,
     pub ahead: bool,
@@ -705,7 +708,7 @@ pub fn is_alone(log: &[u8], author: Author, s: &[u8], c: Span) -> bool
 
 // What becomes of a name that is taken back alone: the first two shapes of `Back`. Nothing here is passed on to where names are joined, so that
 // it stays in registers.
-#[derive(Drop)]
+#[derive(Clone, Copy)]
 pub enum Single {
     // r(k)
     Logged(usize),

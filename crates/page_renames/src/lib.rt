@@ -1,5 +1,8 @@
 // Renaming a page and taking a rename back. Document 01, "Taking it back" and "What comes back"; the definitions are in specs/, and what
 // becomes of one name is that of crates/name_renames, by crates/one_name.
+
+#![tactic(auto)]
+
 ghost use Rattle.std.specs.Prelude.{◌≡◌, true, false, ◌&&◌, ◌||◌, ◌+◌, ◌-◌, ◌*◌, ◌/◌, ◌≤◌, ◌<◌, leb, ltb, length, get_or};
 ghost use mathlib.Core.List.{[], flatten};
 ghost use Rattle.names.specs.Ordering.{compare_rows, is_less};
@@ -146,7 +149,7 @@ fn write_back(page: &[u8], log: &[u8], author: Author, alone: bool, out: &mut [u
 // ── the calls ──
 
 // What stands before a rename or a taking back: a refusal, or none so far.
-#[derive(Drop)]
+#[derive(Clone, Copy)]
 enum Checked {
     Refused(Refusal),
     Passed,

@@ -1,5 +1,8 @@
 // Pages and logs as bytes: the checks of a page, a log and a slot, where a slot's name stands, and finding a name.
 // Document 01, "Pages, logs, epochs" and "What comes back"; the definitions are in specs/.
+
+#![tactic(auto)]
+
 ghost use Rattle.std.specs.Prelude.{◌≡◌, true, ◌+◌, ◌≤◌, [], length, get_or};
 ghost use Rattle.names.specs.Names.{limit, row_of};
 ghost use Rattle.slots.specs.Tuples.{row_at, Lies};
@@ -163,7 +166,7 @@ pub fn name_of(page: &[u8], k: usize) -> Name
 }
 
 // Where a name stands in a page, or would stand.
-#[derive(Drop)]
+#[derive(Clone, Copy)]
 pub enum Place {
     // The slot of that name.
     Here(usize),

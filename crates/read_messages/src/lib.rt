@@ -1,5 +1,8 @@
 // Reading a message: document 01, "Messages" and "What comes back". One pass over the bytes by a reader, and a second that writes the
 // names. What a message is and what reading gives are defined in `messages`.
+
+#![tactic(auto)]
+
 ghost use Rattle.std.specs.Prelude.{◌≡◌, true, cond, ◌&&◌, ◌+◌, ◌*◌, ◌≤◌, eqb, length, drop};
 ghost use mathlib.Core.List.{map, flatten};
 ghost use Rattle.names.specs.Ordering.{compare_rows, is_less};
@@ -145,7 +148,7 @@ fn numbers_in(message: &[u8], cursor: Cursor, end: Cursor) -> Numbers
 // ── the first pass ──
 
 // Whether the names passed are names and rise, how many they are, and the place after their fields.
-#[derive(Drop)]
+#[derive(Clone, Copy)]
 struct Passed {
     good: bool,
     names: usize,
@@ -214,7 +217,7 @@ fn zeros() -> Numbers
 }
 
 // What the first pass has found: whether the bytes are a message, its numbers, and how many names it has. Of what is no message, zeros.
-#[derive(Drop)]
+#[derive(Clone, Copy)]
 struct Told {
     ok: bool,
     numbers: Numbers,
@@ -285,7 +288,7 @@ fn tell_from(message: &[u8], cursor: Cursor) -> Told
 // ── the reader ──
 
 // "a reader that holds the bytes and its place"
-#[derive(Drop)]
+#[derive(Clone, Copy)]
 struct Reader<'a> {
     message: &'a [u8],
     cursor: Cursor,
@@ -354,7 +357,7 @@ fn write_slots(message: &[u8], cursor: Cursor, n: usize, out: &mut [u8])
 }
 
 // What a message says but for the names, which are in the output.
-#[derive(Drop)]
+#[derive(Clone, Copy)]
 pub struct Reading {
     pub answer: Answer,
     pub numbers: Numbers,

@@ -1,6 +1,9 @@
 // A slot whose name is renamed or taken back, written from the bytes of that slot and of the log: tuples are read there or copied, and only a lead
 // tuple, a marker and a lowered offset are made. Document 01, "Renaming one name" and "Taking it back"; what becomes of the name was found by
 // crates/one_name. "Line numbers travel with their names."
+
+#![tactic(auto)]
+
 ghost use Rattle.std.specs.Prelude.{◌≡◌, true, [], ◌∷◌, ◌++◌, ◌+◌, ◌-◌, ◌≤◌, ◌<◌, length, take, drop, get_or};
 ghost use Rattle.names.specs.Ordering.{compare_rows, is_less};
 ghost use Rattle.names.specs.Names.{limit, fits, one_below, m, M};
@@ -20,7 +23,7 @@ use slots::{HEAD, SLOT, Span, TUPLE};
 const LAST: usize = SLOT - TUPLE;
 
 // "r(k)·m·v", or where r(k) is lowered "one below r(k), then M, then v"; v is the name without its first `cut` tuples.
-#[derive(Drop)]
+#[derive(Clone, Copy)]
 struct Joint {
     k: usize,
     cut: usize,

@@ -1,5 +1,8 @@
 // Runs of names in bytes: where a name stands beside a run, and the names of a run written. 02, P2: "names differ only in the last
 // offset, each one more than the one before"; the definitions are in specs/.
+
+#![tactic(auto)]
+
 ghost use Rattle.std.specs.Prelude.{◌≡◌, true, ℕ, ◌+◌, ◌*◌, ◌-◌, ◌≤◌, ◌<◌, length, take, drop, pos};
 ghost use Rattle.names.specs.Ordering.{compare_rows, is_same};
 ghost use Rattle.names.specs.Names.{is_name, limit};
@@ -13,7 +16,7 @@ use names::{LIMIT, Order};
 use slots::{HEAD, Span, TUPLE};
 
 // Where a name stands beside a run.
-#[derive(Drop)]
+#[derive(Clone, Copy)]
 pub enum Stand {
     // Below all of its names.
     Below,

@@ -1,5 +1,8 @@
 // Slots as bytes: tuples and names read and compared where they stand, the check of a slot's layout, and a slot written.
 // Document 01, "Pages, logs, epochs"; the definitions are in specs/.
+
+#![tactic(auto)]
+
 ghost use Rattle.std.specs.Prelude.{◌≡◌, ◌+◌, ◌-◌, ◌*◌, ◌%◌, ◌<◌, ◌≤◌, min, true, false, ◌&&◌, [], ◌∷◌, ◌++◌, length, take, drop, replicate, pos, negsuc, ◌==◌};
 ghost use Rattle.names.specs.Ordering.{compare_ℕ, then, compare_tuples, compare_rows, is_less, is_same};
 ghost use Rattle.names.specs.Names.{limit, row_of, ordinary, ordinary_from, marker, is_name, within_ℤ};
@@ -18,14 +21,14 @@ pub const HEAD: usize = 8;
 pub const SLOT: usize = HEAD + TUPLE * LIMIT;
 
 // Where a name stands in some bytes: `count` tuples from `at` on. A name that is missing has none.
-#[derive(Drop)]
+#[derive(Clone, Copy)]
 pub struct Span {
     pub at: usize,
     pub count: usize,
 }
 
 // What one look at slots tells: that one breaks its layout; else whether the names rise.
-#[derive(Drop)]
+#[derive(Clone, Copy)]
 pub enum Seen {
     Broken,
     NotRising,

@@ -1,4 +1,7 @@
 // Writing a message: document 01, "Messages" and "What comes back". What may be written and what writing gives are defined in `messages`.
+
+#![tactic(auto)]
+
 ghost use Rattle.std.specs.Prelude.{◌≡◌, true, cond, ◌+◌, ◌*◌, ◌≤◌, eqb, length};
 ghost use mathlib.Core.List.{[], ◌∷◌, ◌++◌, map, flatten};
 ghost use Rattle.names.specs.Names.{limit};
