@@ -9,7 +9,7 @@ use Rattle.name_values.proofs.empty.Reads as empty
 use Rattle.name_values.proofs.join_by.Reads as join_by
 use Rattle.name_values.proofs.not_below_zero.Reads as not-below-zero
 use Rattle.name_values.proofs.one.Reads as one-reads
-use Rattle.name_values.proofs.one_below_lem.Reads as one_below_lem
+use Rattle.name_values.proofs.one_below.Reads as one_below_lem
 use Rattle.name_values.proofs.one_lower.Reads as one_lower
 use Rattle.name_values.proofs.push.Reads as push
 

@@ -3,7 +3,7 @@
 use mathlib.Core.Path.{◌≡◌}
 use Rattle.numbers.proofs.Settled.{one}
 use Rattle.names.proofs.is_less.Reads as is_less_lem
-use Rattle.names.proofs.is_same_lem.Reads as is_same_lem
+use Rattle.names.proofs.is_same.Reads as is_same_lem
 use Rattle.names.proofs.compare_numbers.Reads as compare-numbers
 use Rattle.names.proofs.first_of.Reads as first_of
 use Rattle.names.proofs.compare_tuples.Reads as compare-tuples

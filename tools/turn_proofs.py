@@ -1,0 +1,448 @@
+#!/usr/bin/env python3
+"""Turns a crate's proofs of functions from the form of an older Rattle, Proof.antt with its ties, to Invariants.antt and Answers.antt.
+
+usage: python3 tools/turn_proofs.py CRATE [FUNCTION..]     at the top of the repository; the crates below CRATE must prove
+
+What it reads of the goals' names is what `rt check --generated FOLDER --old-names` writes, and of a function's clauses the sources. Answers
+that only call a tactic are left out, since the check tries its own. What stays to do by hand it marks with '-- LOOK'.
+The old file is kept as target/turned/CRATE/FUNCTION/Proof.antt.
+"""
+
+import difflib
+import json
+import os
+import re
+import subprocess
+import sys
+
+WORD = r'[^\s(){}\[\].;,@"«»]+'
+
+
+def read(path):
+    with open(path, encoding="utf-8") as f:
+        return f.read()
+
+
+def labels_of_sources():
+    """crate::path::fn -> ([labels of requires], [labels of ensures])."""
+    out = {}
+    for crate in sorted(os.listdir("crates")):
+        src = os.path.join("crates", crate, "src")
+        if not os.path.isdir(src):
+            continue
+        for f in sorted(os.listdir(src)):
+            if not f.endswith(".rt"):
+                continue
+            module = [] if f in ("lib.rt", "main.rt") else [f[:-3]]
+            text = read(os.path.join(src, f))
+            owner = None
+            name = None
+            for line in text.split("\n"):
+                m = re.match(r"impl(?:<[^>]*>)? (\w+)", line)
+                if m:
+                    owner = m[1]
+                if line == "}":
+                    owner = None if not line.startswith(" ") else owner
+                m = re.match(r"\s*(?:pub |unsafe |extern \"C\" |const )*fn (\w+)", line)
+                if m:
+                    name = "::".join([crate] + module + ([owner] if owner and line.startswith("    ") else []) + [m[1]])
+                    out[name] = ([], [])
+                m = re.match(r"\s*(requires|ensures)\*? (\w+ )?\{", line)
+                if m and name:
+                    out[name][0 if m[1] == "requires" else 1].append((m[2] or "").strip())
+    return out
+
+
+SLICES = {}
+
+
+def slices_of_sources():
+    """crate::path::fn -> its parameters that are &mut slices."""
+    for crate in sorted(os.listdir("crates")):
+        src = os.path.join("crates", crate, "src")
+        for f in sorted(os.listdir(src)) if os.path.isdir(src) else []:
+            if f.endswith(".rt"):
+                module = [] if f in ("lib.rt", "main.rt") else [f[:-3]]
+                for m in re.finditer(r"\bfn (\w+)(?:<[^>]*>)?\(([^)]*)\)", read(os.path.join(src, f))):
+                    SLICES["::".join([crate] + module + [m[1]])] = re.findall(r"(\w+): &(?:'\w+ )?mut \[", m[2])
+
+
+def names_of(crate):
+    folder = f"/tmp/names-{crate}"
+    subprocess.run(["rm", "-rf", folder])
+    r = subprocess.run(["rt", "check", "--generated", folder, "--old-names"], cwd=f"crates/{crate}", capture_output=True, text=True)
+    path = os.path.join(folder, "names.json")
+    if not os.path.exists(path):
+        sys.exit(r.stdout[-2000:] + r.stderr[-1000:])
+    return json.loads(read(path))
+
+
+def norm(s):
+    s = s.replace("_", "-")
+    for a, b in (("-holds", "-init"), ("-less", "-smaller"), ("-again", "-preserved"), ("overflow-", "")):
+        s = s.replace(a, b)
+    s = re.sub(r"^part-|slice-bounds-", "part-", s)
+    return s
+
+
+DECL = re.compile(r"^(?:(?:abbrev|unfoldable|pub) )*(" + WORD + r")\s*:(.*)$")
+
+
+def blocks_of(text):
+    """The file's head (comments and use lines) and its declarations, each a list of lines with the comments above it."""
+    lines = text.split("\n")
+    i = 0
+    head = []
+    while i < len(lines) and (lines[i].startswith("--") or lines[i].startswith("use ") or not lines[i].strip()):
+        head.append(lines[i])
+        i += 1
+    # comments right above the first declaration belong to it
+    tail = []
+    while head and (head[-1].startswith("--") and any(l.startswith("use") for l in head)):
+        tail.insert(0, head.pop())
+    out, now = [], tail
+    for line in lines[i:]:
+        if not line.strip() and now and not now[-1].startswith("--"):
+            out.append(now)
+            now = []
+            continue
+        if line.strip():
+            now.append(line)
+    if now:
+        out.append(now)
+    return head, out
+
+
+def typed(block):
+    """(comments, name, type text, rest lines: unfolding and the definition)"""
+    k = 0
+    while k < len(block) and block[k].startswith("--"):
+        k += 1
+    m = DECL.match(block[k])
+    if not m:
+        return block[:k], None, "", block[k:]
+    ty = m[2]
+    j = k + 1
+    while j < len(block) and not re.match(r"(unfolding |" + re.escape(m[1]) + r"(\s|$))", block[j]):
+        ty += "\n" + block[j]
+        j += 1
+    return block[:k], m[1], ty, block[j:]
+
+
+def words(text, table):
+    """Replaces whole words that stand behind no dot."""
+    return re.sub(r'(?<![^\s(){}\[\];,@"«»])' + WORD, lambda m: table.get(m[0], m[0]), text)
+
+
+class Turn:
+    def __init__(self, crate, name, data, labels):
+        self.crate, self.name, self.data, self.labels = crate, name, data, labels
+        self.full = f"{crate}::" + "::".join(name.split("/"))
+        self.steps = {}
+        self.callee = {}
+        # (old step, old path) -> ARM.field of a match, and the arms whose `ensures` is known
+        self.arms, self.told = {}, set()
+        for row in data.get("arms", []):
+            for field, old, by in (row[2] if row else []):
+                if by:
+                    self.arms[(norm(old), ".".join(by))] = f"{row[0]}.{field}"
+                if field == "ensures":
+                    self.told.add(row[0])
+        self.typed = {norm(old): var for row in data.get("typed", []) for var, old in row}
+        self.slices = SLICES
+        self.used = set()
+        for place in data["places"]:
+            old, new = place[2]
+            if old:
+                self.steps[norm(old)] = new
+                if place[3]:
+                    self.callee[norm(old)] = place[3]
+        self.places = {norm(p[0]): (p[0], by) for p, by in zip(data["places"], data["places_by_name"])}
+
+    def fields(self, text, bound):
+        """Turns IDENT.step.field of a place in bound or of c."""
+
+        def one(m):
+            ident, step, rest = m[1], m[2], m[3] or ""
+            if ident not in bound:
+                return m[0]
+            if step == "args":
+                return "c.args" + rest
+            if step in ("pre", "requires"):
+                if rest and len(self.labels.get(self.full, ([], []))[0]) > 1:
+                    k = re.match(r"\.(\d+)", rest)
+                    if k:
+                        return "c.requires." + self.labels[self.full][0][int(k[1])] + rest[k.end():]
+                return "c.requires" + rest
+            if step in ("lifetimes", "ranges", "well_formed", "type_inv", "good", "fits"):
+                return "c." + {"good": "well_formed", "fits": "ranges"}.get(step, step) + rest
+            key = norm(step)
+            new = self.steps.get(key)
+            for (old, by), arm in sorted(self.arms.items(), key=lambda it: -len(it[0][1])):
+                if old == key and (rest == "." + by or rest.startswith("." + by + ".")):
+                    return "c." + arm + rest[len(by) + 1:]
+            if key in self.typed and rest.startswith(".given"):
+                return "c.type_inv." + self.typed[key] + rest[6:]
+            if new is None:
+                if ident == "c" or rest:
+                    return "c." + step + rest
+                return m[0]
+            rest = re.sub(r"^\.inv(?![\w-])", ".invariant", rest)
+            rest = re.sub(r"^\.taken(?![\w-])", ".true", rest)
+            rest = re.sub(r"^\.left(?![\w-])", ".false", rest)
+            callee = self.callee.get(key)
+            if callee:
+                lab = self.labels.get(callee, ([], []))[1]
+                k = re.match(r"\.kept\.(\d+)", rest)
+                if k:
+                    slices = self.slices.get(callee, [])
+                    if int(k[1]) < len(slices):
+                        rest = ".auto." + slices[int(k[1])] + rest[k.end():]
+                k = re.match(r"\.ensures\.(\d+)", rest)
+                if k and len(lab) > 1:
+                    rest = ".ensures." + lab[int(k[1])] + rest[k.end():]
+            return "c." + new + rest
+
+        return re.sub(r"(?<![\w.'-])([\w'₀-₉-]+)\.([\w'-]+)((?:\.[\w'₀-₉-]+)*)", one, text)
+
+    def body(self, text, bound):
+        # `let P : tie.PLACE inv μ = search rules in`
+        out = []
+        for line in text.split("\n"):
+            m = re.match(r"\s*let ([\w'-]+) : tie\.([\w'-]+)[^=]*= search rules in\s*$", line)
+            if m:
+                bound.add(m[1])
+                out.append((m[1], m[2], line))
+                continue
+            out.append(line)
+        lines = [l for l in out if isinstance(l, str)]
+        lets = [l for l in out if not isinstance(l, str)]
+        text = self.fields("\n".join(lines), bound)
+        # an arm on a call's result
+        def arm(m):
+            if m[2] not in self.told:
+                return m[0]
+            return m[1] + "c." + m[2] + ".ensures" + m[3]
+
+        text = re.sub(r"(\()sym \(?c\.([\w-]+)\.is\)? ∙ c\.[\w-]+\.ensures(\))", arm, text)
+        text = re.sub(r"((?<![\w]))sym \(?c\.([\w-]+)\.is\)? ∙ c\.[\w-]+\.ensures((?![\w.]))", arm, text)
+        text = re.sub(r"simp length-map at (c\.well_formed[.\d]*)", r"\1", text)
+        # places that are still named as a whole
+        keep = []
+        for ident, place, line in lets:
+            if re.search(r"(?<![\w.'-])" + re.escape(ident) + r"(?![\w'-])", text):
+                by = self.places.get(norm(place), (place, place))[1]
+                keep.append(f"    let {ident} : {by} = search rules in")
+                self.used.add(by)
+        return "\n".join(keep + [text]) if keep else text
+
+
+def split_top(text):
+    """The parts of (a, b, ..) at the top, or None."""
+    text = text.strip()
+    if not (text.startswith("(") and text.endswith(")")):
+        return None
+    depth, parts, now = 0, [], ""
+    for i, ch in enumerate(text):
+        if ch in "([{":
+            depth += 1
+            if depth == 1:
+                continue
+        if ch in ")]}":
+            depth -= 1
+            if depth == 0:
+                if i != len(text) - 1:
+                    return None
+                parts.append(now)
+                continue
+        if ch == "," and depth == 1:
+            parts.append(now)
+            now = ""
+            continue
+        now += ch
+    return [p.strip() for p in parts] if len(parts) > 1 else None
+
+
+TRIVIAL = re.compile(r"^(?:\s*let [\w'-]+ : tie\.[^\n]*= search rules in\n)*\s*(?:search rules|omega arith|refl)\s*$")
+
+
+def turn(crate, name, data, labels):
+    path = f"crates/{crate}/proofs/{name}/Proof.antt"
+    head, blocks = blocks_of(read(path))
+    t = Turn(crate, name, data, labels)
+    mod = name.replace("/", ".")
+    uses = [l for l in head if l.startswith("use ") and not re.search(r"\.Statement\.\{|\.Tie as tie$", l)]
+    note = [l for l in head if l.startswith("--")]
+    invariants, answers, others, needs = [], [], [], []
+    loops = data["loops"]
+    n_inv = {}
+    for b in blocks:
+        comments, nm, ty, rest = typed(b)
+        if nm is None:
+            others.append((comments, None, "", b))
+            continue
+        ty = ty.strip()
+        if nm.endswith("-spec") or nm.endswith("_spec"):
+            continue
+        m = re.match(r"tie\.(invariant|decreases|InvT|MeasureT)-([\w-]+)$", ty)
+        if m:
+            kind = "invariant" if m[1].startswith("i") or m[1] == "InvT" else "decreases"
+            invariants.append((comments, nm, kind, m[2], rest))
+            continue
+        m = re.match(r"tie\.Need-([\w'-]+)", ty)
+        if m:
+            needs.append((comments, nm, m[1], rest))
+            continue
+        others.append((comments, nm, ty, b))
+    # ── invariants ──
+    inv_out = []
+    for comments, nm, kind, loop, rest in invariants:
+        index = next((i for i, (l, _) in enumerate(loops) if norm(l[0]) == norm(loop)), None)
+        if index is None:
+            if loops or "recursion" not in data:
+                inv_out.append("-- LOOK: no loop " + loop + "\n" + "\n".join("-- " + l for l in rest))
+                continue
+        (oldl, newl), variables = loops[index]
+        changed = data["changed"][index] if index < len(data["changed"]) else [True] * len(variables)
+        text = "\n".join(rest)
+        unf = ""
+        while text.startswith("unfolding "):
+            u, text = text.split("\n", 1)
+            unf += u + "\n"
+        lhs, _, bodytext = text.partition("=")
+        params = lhs.split()[1:]
+        want = ["initial." + v if ch else v for v, ch in zip(variables, changed)] + [v for v, ch in zip(variables, changed) if ch]
+        if len(params) != len(want):
+            # outer loops' variables come first
+            inv_out.append(f"-- LOOK: parameters {params} for {want}")
+        table = {p: "l." + w for p, w in zip(params, want)}
+        for k in list(table):
+            if k == "_":
+                del table[k]
+        # a parameter in front of a dot
+        bodytext = re.sub(r"(?<![^\s(){}\[\];,@\"«»])(" + WORD + r")", lambda m: table.get(m[1], m[1]), bodytext)
+        new = f"{kind}-{newl}"
+        inv_out.append("\n".join(comments + [f"abbrev pub {new} : goal.{new}"]) + "\n" + unf + f"{new} l ={bodytext}")
+    # ── answers ──
+    old = [norm(n[2]) for n in needs]
+    new = [norm(o) for o, _ in data["needs"]]
+    pairs = {}
+    for tag, a0, a1, b0, b1 in difflib.SequenceMatcher(None, old, new, autojunk=False).get_opcodes():
+        if tag == "equal" or (tag == "replace" and a1 - a0 == b1 - b0):
+            for k in range(a1 - a0):
+                pairs[a0 + k] = data["needs"][b0 + k][1]
+    ans_out = []
+    for k, (comments, nm, label, rest) in enumerate(needs):
+        text = "\n".join(rest)
+        unf = ""
+        while text.startswith("unfolding "):
+            u, text = text.split("\n", 1)
+            unf += u + "\n"
+        lhs, _, bodytext = text.partition("=")
+        if TRIVIAL.match(bodytext) and not unf:
+            continue
+        params = lhs.split()[1:]
+        bound = {params[0]} if params else {"c"}
+        goal = pairs.get(k)
+        btext = t.body(bodytext.strip("\n"), bound)
+        look = ""
+        if goal is None:
+            look = f"-- LOOK: no goal for {label}\n"
+            goal = label
+            if norm(label).startswith(("enum-told",)):
+                continue
+        lab = labels.get(t.full, ([], []))[1]
+        if goal.startswith("returns") and len(lab) > 1:
+            btext = clauses(btext, lab)
+        if goal.endswith("-requires") or re.search(r"-requires(-\d+)?$", goal):
+            step = norm(re.sub(r"-requires.*", "", data_old(data, goal)))
+            callee = t.callee.get(step)
+            labs = labels.get(callee, ([], []))[0] if callee else []
+            if len(labs) > 1:
+                btext = clauses(btext, labs)
+        entry = "\n".join(comments) + ("\n" if comments else "") + look + f"pub {goal} : goal.{goal}\n{unf}{goal} c =" + ("\n" if "\n" in btext else "") + btext
+        ans_out.append(entry)
+    helper = []
+    for comments, nm, ty, b in others:
+        text = "\n".join(b)
+        if "tie." in text:
+            binders = set(re.findall(r"\(([\w'-]+) : tie\.", text))
+            def place(m):
+                by = t.places.get(norm(m[1]), (m[1], m[1]))[1]
+                t.used.add(by)
+                return by
+
+            text = re.sub(r"tie\.([\w'-]+)((?: (?:invariant|decreases)-[\w'-]+)*)", place, text)
+            lets = re.findall(r"let ([\w'-]+) : [\w'-]+ = search rules in", text)
+            text = t.fields(text, binders | {"c"} | set(lets))
+            for ident in set(lets):
+                if not re.search(r"(?<![\w.'-])" + re.escape(ident) + r"(?![\w'-])", re.sub(r"let " + re.escape(ident) + r" : [^\n]*", "", text)):
+                    text = re.sub(r"\n\s*let " + re.escape(ident) + r" : [\w'-]+ = search rules in", "", text)
+            text = "-- LOOK\n" + text
+        helper.append(text)
+    folder = os.path.dirname(path)
+    kept = f"target/turned/{crate}/{name}"
+    os.makedirs(kept, exist_ok=True)
+    os.replace(path, kept + "/Proof.antt")
+    wrote = []
+    if inv_out:
+        text = "\n".join(note + [u for u in uses] + [f"use Rattle.{crate}.proofs.{mod}.Given as goal", ""]) + "\n" + "\n\n".join(inv_out) + "\n"
+        with open(folder + "/Invariants.antt", "w") as f:
+            f.write(text)
+        wrote.append("Invariants")
+    if ans_out:
+        whole = "\n".join(helper + ans_out)
+        places = sorted(p for p in t.used if re.search(r"(?<![\w.'-])" + re.escape(p) + r"(?![\w'-])", whole))
+        from_goals = [f"use Rattle.{crate}.proofs.{mod}.Goals.{{{', '.join(places)}}}"] if places else []
+        text = "\n".join((note if not inv_out else []) + uses + [f"use Rattle.{crate}.proofs.{mod}.Goals as goal"] + from_goals + [""]) + "\n" + "\n\n".join(helper + ans_out) + "\n"
+        with open(folder + "/Answers.antt", "w") as f:
+            f.write(text)
+        wrote.append("Answers")
+    if not wrote and not os.listdir(folder):
+        os.rmdir(folder)
+    print(name, wrote, "LOOK" if "LOOK" in "".join(ans_out + inv_out + helper) else "")
+
+
+def data_old(data, goal):
+    for o, n in data["needs"]:
+        if n == goal:
+            return o
+    return goal
+
+
+def clauses(btext, lab):
+    """The last term, a tuple of as many parts as there are clauses, as a record."""
+    lines = btext.split("\n")
+    # the final term starts after the last `in` at the end of a line
+    k = len(lines)
+    while k > 0 and not re.search(r"\bin\s*$", lines[k - 1]):
+        k -= 1
+    final = "\n".join(lines[k:])
+    parts = split_top(final)
+    if parts and len(parts) == len(lab):
+        rec = "    record {\n" + "".join(f"      {l} = {p};\n" for l, p in zip(lab, parts)) + "    }"
+        return "\n".join(lines[:k] + [rec])
+    return btext + "\n    -- LOOK: clauses " + " ".join(lab)
+
+
+def main(argv):
+    crate = argv[0]
+    names = names_of(crate)
+    labels = labels_of_sources()
+    slices_of_sources()
+    for key, data in sorted(names.items()):
+        m = re.match(r"Rattle-\w+-proofs\.(.*)\.Lts$", key)
+        if not m:
+            continue
+        name = m[1].replace(".", "/")
+        if len(argv) > 1 and name not in argv[1:]:
+            continue
+        if os.path.exists(f"crates/{crate}/proofs/{name}/Proof.antt"):
+            turn(crate, name, data, labels)
+    for folder, _, fs in os.walk(f"crates/{crate}/proofs"):
+        if "Proof.antt" in fs:
+            print("left:", folder)
+
+
+if __name__ == "__main__":
+    main(sys.argv[1:])
