@@ -203,7 +203,12 @@ class Turn:
                     rest = ".ensures." + lab[int(k[1])] + rest[k.end():]
             return "c." + new + rest
 
-        return re.sub(r"(?<![\w.'-])([\w'₀-₉-]+)\.([\w'-]+)((?:\.[\w'₀-₉-]+)*)", one, text)
+        for alias, ident in re.findall(r"let ([\w'-]+) = ([\w'-]+) in", text):
+            if ident in bound:
+                bound.add(alias)
+                text = re.sub(r"[ \t]*let " + re.escape(alias) + " = " + re.escape(ident) + r" in[ \n]?", "    ", text)
+        text = re.sub(r"(?<![\w.'-])([\w'₀-₉-]+)\.([\w'-]+)((?:\.[\w'₀-₉-]+)*)", one, text)
+        return re.sub(r"simp length-map at (c\.well_formed[.\d]*)", r"\1", text)
 
     def body(self, text, bound):
         # `let P : tie.PLACE inv μ = search rules in`
@@ -226,7 +231,6 @@ class Turn:
 
         text = re.sub(r"(\()sym \(?c\.([\w-]+)\.is\)? ∙ c\.[\w-]+\.ensures(\))", arm, text)
         text = re.sub(r"((?<![\w]))sym \(?c\.([\w-]+)\.is\)? ∙ c\.[\w-]+\.ensures((?![\w.]))", arm, text)
-        text = re.sub(r"simp length-map at (c\.well_formed[.\d]*)", r"\1", text)
         # places that are still named as a whole
         keep = []
         for ident, place, line in lets:

@@ -19,6 +19,7 @@ module _ {A : Type 0} (refusing : Refusal → A) (next : A) where
   passed (t ∷ tests) (e, p) = ap (λ (b : Bool). ask b (refusing t.refusal) (in_order tests refusing next)) e ∙ passed tests p
 
   pub failed : {r : Refusal} (tests : List Test) → FirstFails r tests → in_order tests refusing next ≡ refusing r
+  failed {r = r} [] x' = elim x' [ ]
   failed (t ∷ tests) (here e q) = ap (λ (b : Bool). ask b (refusing t.refusal) (in_order tests refusing next)) e ∙ ap refusing q
   failed (t ∷ tests) (later e f) = ap (λ (b : Bool). ask b (refusing t.refusal) (in_order tests refusing next)) e ∙ failed tests f
 

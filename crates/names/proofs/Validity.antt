@@ -176,6 +176,7 @@ ends_long (onward b e) = omega arith
 
 is_ends : (a : Row) → Ends a → ends_well a ≡ true
 unfolding ends_well
+is_ends [] x' = elim x' [ ]
 is_ends (t ∷ []) (final o h) = to_test (pos 0) o (le_above_zero h)
 is_ends (t ∷ []) (onward b e) = absurd (let h : 1 ≤ 0 = ends_long e in omega arith)
 is_ends (t ∷ u ∷ a) (onward b e) = and_yes (is_middle b) (is_ends (u ∷ a) e)
