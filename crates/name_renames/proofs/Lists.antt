@@ -41,6 +41,7 @@ rising_map f h (cons i is) one = one
 rising_map f h (cons i (cons j is)) (more l o) = more (h _ _ i j l) (rising_map f h (cons j is) o)
 
 pub rising_next : {l : List Row} (k : ℕ) → Rising l → suc k < length l → at l k <ⁿ at l (suc k)
+rising_next k none i = elim i [ ]
 rising_next k one i = absurd (omega arith)
 rising_next zero (more h o) i = h
 rising_next (suc k) (more h o) i = rising_next k o (omega arith)

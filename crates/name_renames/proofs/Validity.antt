@@ -48,6 +48,7 @@ module _ (p : ℕ) (author : Author) (p-min : 1 ≤ p) (p-max : p ≤ 65534) (a 
 
 pub rename_valid : (author : Author) (r : Row) (rest : List Row) (x : Row) → Allowed author → length (r ∷ rest) ≤ 2147483647 → Valid r → Valid x → Valid (rename author (r ∷ rest) x)
 unfolding rename
+rename_valid author [] rest x a b x6 v = elim x6 [ ]
 rename_valid author (t ∷ r) rest x a b (valid o e) v =
     let p = t.position in
     let log = (t ∷ r) ∷ rest in
@@ -79,12 +80,14 @@ valid_nonempty v = ends_nonempty (valid_ends v)
 
 under_ends : (r : Row) {t : Row} → Ends r → Ends t → Ends (one_below r ++ (M ∷ t))
 unfolding one_below
+under_ends [] {t = t} x'' f = elim x'' [ ]
 under_ends (w ∷ []) (final o h) f = onward (plain (lowered_ordinary o h)) (onward (marker_M refl) f)
 under_ends (w ∷ []) (onward b e) f = no_nil (ends_nonempty e)
 under_ends (w ∷ u ∷ r) (onward b e) f = onward b (under_ends (u ∷ r) e f)
 
 under_valid : {r t : Row} → Valid r → Ends t → Valid (one_below r ++ (M ∷ t))
 unfolding one_below
+under_valid {r = []} {t = t} x'' f = elim x'' [ ]
 under_valid {r = w ∷ []} (valid o (final i h)) f = valid (lowered_ordinary i h) (under_ends (w ∷ []) (final i h) f)
 under_valid {r = w ∷ []} (valid o (onward b e)) f = no_nil (ends_nonempty e)
 under_valid {r = w ∷ u ∷ r} (valid o e) f = valid o (under_ends (w ∷ u ∷ r) e f)

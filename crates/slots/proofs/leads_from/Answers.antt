@@ -1,0 +1,44 @@
+use Rattle.std.proofs.Common.{◌≡◌, ◌+◌, ◌-◌, ◌*◌, true, ◌&&◌, ◌||◌, ltb, sym, ◌∙◌, ⊎_elim, arith, rules, le-ltb, lt-ltb}
+use borrow.Author.Tests.{not-true, not-false}
+use Rattle.names.specs.Names.{ordinary, marker}
+use Rattle.slots.specs.Tuples.{tuple_at, tuples_at, tuple_size}
+use Rattle.slots.specs.Looks.{leads}
+use Rattle.slots.proofs.NameTests.{leads_fewer, leads_at, leads_not}
+use Rattle.slots.proofs.leads_from.Goals as goal
+
+pub loop-i-preserved : goal.loop-i-preserved
+loop-i-preserved c =
+    let s = c.args.s.now in
+    let p = c.args.p in
+    let i = c.loop-i.i in
+    let t = tuple_at s (p + tuple_size * i) in
+    let is = c.ordinary_at.ensures in
+    let goes : true ≡ ordinary t || (ltb 0 i && marker t) =
+    ⊎_elim
+    (λ w j. (sym w.taken ∙ is) j || (ltb 0 i && marker t))
+    (λ w j. (sym w.0.left ∙ is) j || (sym (lt-ltb 0 i w.1.left) j && (sym (not-false w.2.result w.3.left) ∙ w.2.ensures) j))
+    c.if-ordinary_at.branch in
+    sym (leads_at s p i c.loop-i.invariant goes)
+
+pub returns-then-n-i : goal.returns-then-n-i
+returns-then-n-i c =    sym (leads_fewer c.args.s.now c.args.p c.args.n c.loop-i.i c.if-n-i.true c.loop-i.invariant)
+
+pub returns-then-i-lt1 : goal.returns-then-i-lt1
+returns-then-i-lt1 c =
+    let s = c.args.s.now in
+    let p = c.args.p in
+    let i = c.loop-i.i in
+    let t = tuple_at s (p + tuple_size * i) in
+    let is = sym c.if-ordinary_at.false ∙ c.ordinary_at.ensures in
+    leads_not s p (i + 1) c.args.n (omega arith)
+    (leads_at s p i c.loop-i.invariant (λ j. is j || (sym (le-ltb 0 i (omega arith)) j && marker t)))
+
+pub returns-then-not-marker_at : goal.returns-then-not-marker_at
+returns-then-not-marker_at c =
+    let s = c.args.s.now in
+    let p = c.args.p in
+    let i = c.loop-i.i in
+    let is = sym c.if-ordinary_at.false ∙ c.ordinary_at.ensures in
+    let mark = sym (not-true c.marker_at.result c.if-not-marker_at.true) ∙ c.marker_at.ensures in
+    leads_not s p (i + 1) c.args.n (omega arith)
+    (leads_at s p i c.loop-i.invariant (λ j. is j || (sym (lt-ltb 0 i c.if-i-lt1.false) j && mark j)))

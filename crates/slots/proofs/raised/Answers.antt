@@ -1,0 +1,6 @@
+-- `slots::raised` meets its contract. Assumes nothing.
+use Rattle.std.proofs.Common.{rules}
+use Rattle.slots.proofs.raised.Goals as goal
+
+pub returns : goal.returns
+returns c = c.wrapping_add_u32.ensures

@@ -1,0 +1,13 @@
+-- `slots::zero_up_to` meets its contract. Assumes nothing.
+use Rattle.std.proofs.Common.{◌≡◌, ℕ, ◌+◌, ◌-◌, ◌*◌, ◌≤◌, true, drop, sym, ap, ◌∙◌, arith, rules}
+use Rattle.numbers.specs.Bytes.{all_zero}
+use Rattle.slots.specs.Tuples.{tuple_size}
+use Rattle.slots.specs.Slots.{head_size}
+use Rattle.slots.proofs.ZeroTuples.{zeros_more, zeros_fail}
+use Rattle.slots.proofs.zero_up_to.Given as goal
+
+abbrev pub invariant-loop-i : goal.invariant-loop-i
+invariant-loop-i l = (l.d ≤ l.i) × (l.i ≤ l.k) × (all_zero (drop (head_size + tuple_size * l.i) l.s) ≡ true)
+
+abbrev pub decreases-loop-i : goal.decreases-loop-i
+decreases-loop-i l = l.i
