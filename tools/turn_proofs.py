@@ -181,7 +181,7 @@ class Turn:
             for (old, by), arm in sorted(self.arms.items(), key=lambda it: -len(it[0][1])):
                 if old == key and (rest == "." + by or rest.startswith("." + by + ".")):
                     return "c." + arm + rest[len(by) + 1:]
-            if key in self.typed and rest.startswith(".given"):
+            if key in self.typed and not key.startswith("struct") and rest.startswith(".given"):
                 return "c.type_inv." + self.typed[key] + rest[6:]
             if new is None:
                 if ident == "c" or rest:
@@ -193,6 +193,13 @@ class Turn:
             callee = self.callee.get(key)
             if callee:
                 lab = self.labels.get(callee, ([], []))[1]
+                k = re.match(r"\.last((?:\.1)*)\.0", rest)
+                params = self.data["params"].get(callee, [])
+                if k and len(k[1]) // 2 < len(params):
+                    rest = ".new." + params[len(k[1]) // 2] + rest[k.end():]
+                rest = rest.replace(".type-inv", ".type_inv")
+                if callee not in self.labels and "wrapping" in callee:
+                    rest = re.sub(r"^\.ensures(?![.\w])", ".ensures.value", rest)
                 k = re.match(r"\.kept\.(\d+)", rest)
                 if k:
                     slices = self.slices.get(callee, [])
@@ -208,6 +215,10 @@ class Turn:
                 bound.add(alias)
                 text = re.sub(r"[ \t]*let " + re.escape(alias) + " = " + re.escape(ident) + r" in[ \n]?", "    ", text)
         text = re.sub(r"(?<![\w.'-])([\w'₀-₉-]+)\.([\w'-]+)((?:\.[\w'₀-₉-]+)*)", one, text)
+        # a test of `!b` says b ≡ false or b ≡ true
+        text = re.sub(r"\(not-(?:true|false) (?:\([^()]*\)|\S+) (c\.if-not-[\w-]+\.(?:true|false))\)", r"\1", text)
+        text = re.sub(r"not-(?:true|false) (?:\([^()]*\)|\S+) (c\.if-not-[\w-]+\.(?:true|false))", r"\1", text)
+        text = re.sub(r"record \{ sfits = c\.[\w-]+\.given[.\d]* \}", "search rules", text)
         return re.sub(r"simp length-map at (c\.well_formed[.\d]*)", r"\1", text)
 
     def body(self, text, bound):

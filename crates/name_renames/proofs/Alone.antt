@@ -189,8 +189,11 @@ module _ (author : Author) (log : List Row) where
   placed_is (low h (cut_below {h = s} {t} e f) x) = own 1 {c = s ∷ t} (omega arith) (omega arith)
   placed_is (high f h (kept_above g) x) = own 0 (omega arith) (omega arith)
   placed_is (high f h (cut_above {h = s} {t} e g) x) = own 1 {c = s ∷ t} (omega arith) (omega arith)
-  placed_is (mid f h k t b e (name d)) = inl (k, b, refl)
-  placed_is (mid f h k t b e (tuples i g l)) = inr (1, omega arith, omega (arith, ap length e), sym (ap (drop 1) e))
+  placed_is (mid f h k t b e x) = among k t b e x
+    where
+      among : {c : Row} (k : ℕ) (t : Row) {v : Row} → k < length log → c ≡ lead p author (pos k) ∷ t → Held k t v → Stays log c v
+      among k t b e (name d) = inl (k, b, refl)
+      among k t b e (tuples i g l) = inr (1, omega arith, omega (arith, ap length e), sym (ap (drop 1) e))
 
   module _ (c : Row) (n : 1 ≤ length log) (a : alone author log c ≡ true) where
     -- What it is taken back to is a name of the log, or c without its first tuples.

@@ -25,6 +25,8 @@ behind_low v (same e h) f = same e (behind_low v h (λ i. f (omega arith)))
 -- (one below y)·M·w is above what is below y, where no marker follows as many tuples there
 ahead_high : (y : Row) {x : Row} (w : Row) → x <ⁿ y → Free x (length y) → x <ⁿ one_below y ++ (M ∷ w)
 unfolding one_below
+ahead_high (t ∷ []) w (same {s = s} {a = a} e h) f = elim h [ ]
+ahead_high [] w x4 f = elim x4 [ ]
 ahead_high (t ∷ []) w ends f = ends
 ahead_high (t ∷ []) w (differ {s} {a = a} h) f = go a f (lowered_next h)
   where
@@ -39,6 +41,8 @@ ahead_high (t ∷ u ∷ y) w (same e h) f = same e (ahead_high (u ∷ y) w h (λ
 -- and x·m·v is below (one below y)·M·w, where x is below y and neither has a marker there
 between : (y : Row) {x : Row} (v w : Row) → x <ⁿ y → Free y (length x) → Free x (length y) → x ++ (m ∷ v) <ⁿ one_below y ++ (M ∷ w)
 unfolding one_below
+between (t ∷ []) v w (same {s = s} {a = a} e h) f g = elim h [ ]
+between [] v w x5 f g = elim x5 [ ]
 between (t ∷ []) v w ends f g = differ (position (f (omega arith)).position_min)
 between (t ∷ []) v w (differ {s} {a = a} h) f g = go a g (lowered_next h)
   where

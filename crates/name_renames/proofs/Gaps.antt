@@ -55,6 +55,8 @@ over_low v (same e h) (cons i a) = same e (over_low v h a)
 -- (one below r)·M·v is above whatever is below r
 pub under_high : (r : Row) {x : Row} (v : Row) → x <ⁿ r → BelowM x → x <ⁿ one_below r ++ (M ∷ v)
 unfolding one_below
+under_high (t ∷ []) v (same {s = s} e h) a = elim h [ ]
+under_high [] v x4 a = elim x4 [ ]
 under_high (t ∷ []) v ends a = ends
 under_high (t ∷ []) v (differ {s} h) (cons i a) = go (lowered_next h) a
   where

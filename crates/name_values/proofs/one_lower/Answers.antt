@@ -9,5 +9,5 @@ use Rattle.name_values.proofs.one_lower.Goals as goal
 pub returns : goal.returns
 returns c =
     let t = c.args.t in
-    let o = to_z-of_z w32 c.one_less-offset.result (record { sfits = c.one_less-offset.type-inv }) ∙ c.one_less-offset.ensures ∙ ap pred_ℤ (to_z-of_z w32 t.offset (record { sfits = c.type_inv.t.1.1.1.0.1 })) in
+    let o = to_z-of_z w32 c.one_less-offset.result (search rules) ∙ c.one_less-offset.ensures ∙ ap pred_ℤ (to_z-of_z w32 t.offset (search rules)) in
     λ i. record { position = t.position; node = t.node; sequence = t.sequence; offset = o i }

@@ -48,9 +48,9 @@ returns c =
     let two = three_words s octets (at + 12) (at + 16) (at + 20) (omega (arith, room)) (omega arith) (omega arith) c.read_u32-d.ensures c.read_u32-e.ensures c.read_u32-f.ensures in
     let three = three_words s octets (at + 24) (at + 28) (at + 32) (omega (arith, room)) (omega arith) (omega arith) c.read_u32-g.ensures c.read_u32-h.ensures c.read_u32-i.ensures in
     let four = three_words s octets (at + 36) (at + 40) (at + 44) (omega (arith, room)) (omega arith) (omega arith) c.read_u32-j.ensures c.read_u32-k.ensures c.read_u32-l.ensures in
-    let d = c.write_three.last.0 in
-    let d2 = c.write_three-2.last.0 in
-    let d3 = c.write_three-3.last.0 in
+    let d = c.write_three.new.out in
+    let d2 = c.write_three-2.new.out in
+    let d3 = c.write_three-3.new.out in
     copied_on o s p at 36 12 fits (omega (arith, room))
     (copied_on o s p at 24 12 fits (omega (arith, room))
     (copied_on o s p at 12 12 fits (omega (arith, room)) (c.write_three.ensures ∙ ap (put o p) one) (c.write_three-2.ensures ∙ ap (put d (p + 12)) two))

@@ -39,7 +39,7 @@ returns c =
     let s = c.args.s.now in
     let x = c.args.name in
     let a = row_at s x in
-    let head = c.write_head.last.0 in
+    let head = c.write_head.new.out in
     let deep = sym (length_tuples_at s x.at x.count) in
     let room : q + tuple_size * limit ≤ length head = omega arith in
     slot_written o p (omega arith) c.args.line x.count a deep c.write_head.ensures refl

@@ -14,7 +14,7 @@ returns c =
     let octets : Octets s = λ i. omega (arith, c.type_inv.s i) in
     let one = three_words s octets at (at + 4) (at + 8) (omega arith) refl refl c.read_u32-x.ensures c.read_u32-y.ensures c.read_u32-z.ensures in
     let two = three_words s octets (at + 12) (at + 16) (at + 20) (omega arith) (omega arith) (omega arith) c.read_u32-u.ensures c.read_u32-v.ensures c.read_u32-w.ensures in
-    let d = c.write_three.last.0 in
+    let d = c.write_three.new.out in
     copied_on o s p at tuple_size tuple_size (omega arith) (omega arith)
     (c.write_three.ensures ∙ ap (put o p) one)
     (c.write_three-2.ensures ∙ ap (put d (p + 12)) two)

@@ -17,10 +17,10 @@ name_from-requires c =
 pub returns-then-not-name_from : goal.returns-then-not-name_from
 returns-then-not-name_from c =
     let x = c.args in
-    let named = sym (not-true c.name_from.result c.if-not-name_from.true) ∙ c.name_from.ensures in
+    let named = sym c.if-not-name_from.true ∙ c.name_from.ensures in
     λ j. named j && is_less (compare_rows (tuples_at x.a.now x.p x.n) (tuples_at x.s.now x.q x.d))
 
 pub returns : goal.returns
 returns c =
-    let named = sym (not-false c.name_from.result c.if-not-name_from.false) ∙ c.name_from.ensures in
+    let named = sym c.if-not-name_from.false ∙ c.name_from.ensures in
     λ j. named j && c.rises_at.ensures j

@@ -5,6 +5,7 @@ use Rattle.slots.specs.Tuples.{tuple_at, tuples_at, tuple_size}
 use Rattle.slots.specs.Looks.{leads}
 use Rattle.slots.proofs.NameTests.{leads_fewer, leads_at, leads_not}
 use Rattle.slots.proofs.leads_from.Goals as goal
+use Rattle.slots.proofs.leads_from.Goals.{then-ordinary_at, else-ordinary_at+else-i-lt1+else-not-marker_at}
 
 pub loop-i-preserved : goal.loop-i-preserved
 loop-i-preserved c =
@@ -14,10 +15,10 @@ loop-i-preserved c =
     let t = tuple_at s (p + tuple_size * i) in
     let is = c.ordinary_at.ensures in
     let goes : true ≡ ordinary t || (ltb 0 i && marker t) =
-    ⊎_elim
-    (λ w j. (sym w.taken ∙ is) j || (ltb 0 i && marker t))
-    (λ w j. (sym w.0.left ∙ is) j || (sym (lt-ltb 0 i w.1.left) j && (sym (not-false w.2.result w.3.left) ∙ w.2.ensures) j))
-    c.if-ordinary_at.branch in
+    elim c.if-ordinary_at.branch [
+      then-ordinary_at w ↦ λ j. (sym w.if-ordinary_at.true ∙ is) j || (ltb 0 i && marker t)
+    | else-ordinary_at+else-i-lt1+else-not-marker_at w ↦ λ j. (sym w.if-ordinary_at.false ∙ is) j || (sym (lt-ltb 0 i w.if-i-lt1.false) j && (sym w.if-not-marker_at.false ∙ w.marker_at.ensures) j)
+    ] in
     sym (leads_at s p i c.loop-i.invariant goes)
 
 pub returns-then-n-i : goal.returns-then-n-i
@@ -39,6 +40,6 @@ returns-then-not-marker_at c =
     let p = c.args.p in
     let i = c.loop-i.i in
     let is = sym c.if-ordinary_at.false ∙ c.ordinary_at.ensures in
-    let mark = sym (not-true c.marker_at.result c.if-not-marker_at.true) ∙ c.marker_at.ensures in
+    let mark = sym c.if-not-marker_at.true ∙ c.marker_at.ensures in
     leads_not s p (i + 1) c.args.n (omega arith)
     (leads_at s p i c.loop-i.invariant (λ j. is j || (sym (lt-ltb 0 i c.if-i-lt1.false) j && mark j)))

@@ -14,14 +14,14 @@ pub returns-then-not-head_ok : goal.returns-then-not-head_ok
 returns-then-not-head_ok c =
     let s = c.args.s.now in
     let room = c.args.room in
-    broken room s (tuples_at c.args.a.now head_size c.args.n) (bad_head room s c.requires.s_len.0 c.head_ok.ensures (not-true c.head_ok.result c.if-not-head_ok.true))
+    broken room s (tuples_at c.args.a.now head_size c.args.n) (bad_head room s c.requires.s_len.0 c.head_ok.ensures c.if-not-head_ok.true)
 
 pub name_from-requires : goal.name_from-requires
 name_from-requires c =
     let s = c.args.s.now in
     let room = c.args.room in
     let a = c.args.a.now in
-    let head = sym c.head_ok.ensures ∙ not-false c.head_ok.result c.if-not-head_ok.false in
+    let head = sym c.head_ok.ensures ∙ c.if-not-head_ok.false in
     let k = deep room s head in
     let i = c.alike-i.result in
     let known = leads_fewer a head_size i c.args.n c.alike-i.ensures.upper_bound.0 c.requires.n_in_bounds.1 in
@@ -33,8 +33,8 @@ returns-then-not-name_from c =
     let room = c.args.room in
     let d = c.depth_over-d.result in
     let a = tuples_at c.args.a.now head_size c.args.n in
-    let head = sym c.head_ok.ensures ∙ not-false c.head_ok.result c.if-not-head_ok.false in
-    let named = sym (not-true c.name_from.result c.if-not-name_from.true) ∙ c.name_from.ensures in
+    let head = sym c.head_ok.ensures ∙ c.if-not-head_ok.false in
+    let named = sym c.if-not-name_from.true ∙ c.name_from.ensures in
     broken room s a (kept_by room s c.requires.s_len.0 d head c.depth_over-d.ensures named refl)
 
 pub returns-then-not-zero_after : goal.returns-then-not-zero_after
@@ -43,9 +43,9 @@ returns-then-not-zero_after c =
     let room = c.args.room in
     let d = c.depth_over-d.result in
     let a = tuples_at c.args.a.now head_size c.args.n in
-    let head = sym c.head_ok.ensures ∙ not-false c.head_ok.result c.if-not-head_ok.false in
-    let named = sym (not-false c.name_from.result c.if-not-name_from.false) ∙ c.name_from.ensures in
-    let rest = sym (not-true c.zero_after.result c.if-not-zero_after.true) ∙ c.zero_after.ensures in
+    let head = sym c.head_ok.ensures ∙ c.if-not-head_ok.false in
+    let named = sym c.if-not-name_from.false ∙ c.name_from.ensures in
+    let rest = sym c.if-not-zero_after.true ∙ c.zero_after.ensures in
     broken room s a (kept_by room s c.requires.s_len.0 d head c.depth_over-d.ensures named rest)
 
 pub returns-then-is_less : goal.returns-then-is_less
@@ -54,9 +54,9 @@ returns-then-is_less c =
     let room = c.args.room in
     let d = c.depth_over-d.result in
     let a = tuples_at c.args.a.now head_size c.args.n in
-    let head = sym c.head_ok.ensures ∙ not-false c.head_ok.result c.if-not-head_ok.false in
-    let named = sym (not-false c.name_from.result c.if-not-name_from.false) ∙ c.name_from.ensures in
-    let rest = sym (not-false c.zero_after.result c.if-not-zero_after.false) ∙ c.zero_after.ensures in
+    let head = sym c.head_ok.ensures ∙ c.if-not-head_ok.false in
+    let named = sym c.if-not-name_from.false ∙ c.name_from.ensures in
+    let rest = sym c.if-not-zero_after.false ∙ c.zero_after.ensures in
     let keeps = kept_by room s c.requires.s_len.0 d head c.depth_over-d.ensures named rest in
     let i = c.alike-i.result in
     let order =
@@ -72,9 +72,9 @@ returns-else-is_less c =
     let room = c.args.room in
     let d = c.depth_over-d.result in
     let a = tuples_at c.args.a.now head_size c.args.n in
-    let head = sym c.head_ok.ensures ∙ not-false c.head_ok.result c.if-not-head_ok.false in
-    let named = sym (not-false c.name_from.result c.if-not-name_from.false) ∙ c.name_from.ensures in
-    let rest = sym (not-false c.zero_after.result c.if-not-zero_after.false) ∙ c.zero_after.ensures in
+    let head = sym c.head_ok.ensures ∙ c.if-not-head_ok.false in
+    let named = sym c.if-not-name_from.false ∙ c.name_from.ensures in
+    let rest = sym c.if-not-zero_after.false ∙ c.zero_after.ensures in
     let keeps = kept_by room s c.requires.s_len.0 d head c.depth_over-d.ensures named rest in
     let i = c.alike-i.result in
     let order =

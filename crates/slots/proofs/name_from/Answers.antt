@@ -12,10 +12,10 @@ returns-then-not-last_at c =
     let s = c.args.s.now in
     let p = c.args.p in
     let n = c.args.n in
-    let last = sym (not-true c.last_at.result c.if-not-last_at.true) ∙ c.last_at.ensures in
+    let last = sym c.if-not-last_at.true ∙ c.last_at.ensures in
     sym (and-false (leads (tuples_at s p (n - 1)))) ∙ name_by s p n (omega arith) refl last
 
 pub returns : goal.returns
 returns c =
-    let last = sym (not-false c.last_at.result c.if-not-last_at.false) ∙ c.last_at.ensures in
+    let last = sym c.if-not-last_at.false ∙ c.last_at.ensures in
     sym (and-true c.leads_from.result) ∙ name_by c.args.s.now c.args.p c.args.n (omega arith) c.leads_from.ensures last

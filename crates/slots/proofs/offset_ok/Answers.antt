@@ -4,4 +4,4 @@ use Rattle.slots.proofs.TupleTests.{offset_by}
 use Rattle.slots.proofs.offset_ok.Goals as goal
 
 pub returns : goal.returns
-returns c =    ap (λ (x : ℕ). leb x 2147483647) c.wrapping_add_u32.ensures ∙ offset_by c.args.o (omega arith)
+returns c =    ap (λ (x : ℕ). leb x 2147483647) c.wrapping_add_u32.ensures.value ∙ offset_by c.args.o (omega arith)

@@ -3,4 +3,4 @@ use Rattle.std.proofs.Common.{rules}
 use Rattle.slots.proofs.raised.Goals as goal
 
 pub returns : goal.returns
-returns c = c.wrapping_add_u32.ensures
+returns c = c.wrapping_add_u32.ensures.value

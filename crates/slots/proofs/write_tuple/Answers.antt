@@ -15,7 +15,7 @@ returns c =
     let t = c.args.t in
     let h : p ≤ length o = omega arith in
     let n : t.node < 65536 = omega arith in
-    let b : c.to_unsigned.result ≡ unsigned t.offset = c.to_unsigned.ensures ∙ ap unsigned (to_z-of_z w32 t.offset (record { sfits = c.type_inv.t.1.1.1.0.1 })) in
+    let b : c.to_unsigned.result ≡ unsigned t.offset = c.to_unsigned.ensures ∙ ap unsigned (to_z-of_z w32 t.offset (search rules)) in
     let d₁ = c.write_u32.ensures ∙ ap (put o p) (pair t.position t.node n) in
     let d₂ = put_more o p h (bytes16 t.position ++ bytes16 t.node) (bytes32 t.sequence) d₁ refl c.write_u32-2.ensures in
-    put_more o p h (bytes16 t.position ++ bytes16 t.node ++ bytes32 t.sequence) (bytes32 (unsigned t.offset)) d₂ refl (c.write_u32-3.ensures ∙ ap (λ (n : ℕ). put c.write_u32-2.last.0 (p + 8) (bytes32 n)) b)
+    put_more o p h (bytes16 t.position ++ bytes16 t.node ++ bytes32 t.sequence) (bytes32 (unsigned t.offset)) d₂ refl (c.write_u32-3.ensures ∙ ap (λ (n : ℕ). put c.write_u32-2.new.out (p + 8) (bytes32 n)) b)
