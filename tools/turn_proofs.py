@@ -78,7 +78,7 @@ def names_of(crate):
 
 
 def norm(s):
-    s = s.replace("_", "-")
+    s = s.replace("_", "-").lower()
     for a, b in (("-holds", "-init"), ("-less", "-smaller"), ("-again", "-preserved"), ("overflow-", "")):
         s = s.replace(a, b)
     s = re.sub(r"^part-|slice-bounds-", "part-", s)
@@ -197,7 +197,7 @@ class Turn:
                 params = self.data["params"].get(callee, [])
                 if k and len(k[1]) // 2 < len(params):
                     rest = ".new." + params[len(k[1]) // 2] + rest[k.end():]
-                rest = rest.replace(".type-inv", ".type_inv")
+                rest = re.sub(r"^\.(?:type-inv|ok)(?![\w-])", ".type_inv", rest)
                 if callee not in self.labels and "wrapping" in callee:
                     rest = re.sub(r"^\.ensures(?![.\w])", ".ensures.value", rest)
                 k = re.match(r"\.kept\.(\d+)", rest)
@@ -218,7 +218,7 @@ class Turn:
         # a test of `!b` says b ≡ false or b ≡ true
         text = re.sub(r"\(not-(?:true|false) (?:\([^()]*\)|\S+) (c\.if-not-[\w-]+\.(?:true|false))\)", r"\1", text)
         text = re.sub(r"not-(?:true|false) (?:\([^()]*\)|\S+) (c\.if-not-[\w-]+\.(?:true|false))", r"\1", text)
-        text = re.sub(r"record \{ sfits = c\.[\w-]+\.given[.\d]* \}", "search rules", text)
+        text = re.sub(r"record \{ sfits = c\.[\w-]+\.(?:given|type_inv)[.\d]* \}", "search rules", text)
         return re.sub(r"simp length-map at (c\.well_formed[.\d]*)", r"\1", text)
 
     def body(self, text, bound):

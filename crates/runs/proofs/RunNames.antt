@@ -206,6 +206,7 @@ module _ {n : ℕ} (l : n < 2147483646) where
 
   next_valid : (a : Row) → Valid a → last_offset a ≡ pos n → Valid (next a)
   unfolding next last_offset
+  next_valid [] x'' e = elim x'' [ ]
   next_valid (t ∷ []) (valid o r) e = valid (raised_ordinary o e) (next_ends r e)
   next_valid (t ∷ u ∷ a) (valid o r) e = valid o (next_ends r e)
 

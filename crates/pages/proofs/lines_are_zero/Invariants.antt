@@ -1,0 +1,21 @@
+-- `pages::lines_are_zero` meets its contract. Assumes nothing.
+use mathlib.Core.Path.{◌≡◌, refl, ◌∙◌, sym}
+use mathlib.Core.Bool.{Bool}
+use Prim.Native.Nat.{◌-◌, ◌/◌, ◌≤◌}
+use native.Mathlib.Omega.{arith}
+use borrow.Author.Tests.{eq-eqb, ne_eqb}
+use lib.ListN.{length, drop}
+use Rattle.numbers.specs.Bytes.{Bytes, is_zero}
+use Rattle.numbers.specs.Lists.{every}
+use Rattle.slots.specs.Slots.{slot_size, slot_of, line_of}
+use Rattle.pages.specs.Pages.{parts, line_is_zero}
+use Rattle.pages.proofs.SlotBySlot.{lent_length, part_at, part_end}
+use Rattle.numbers.proofs.Every.{every_map}
+use borrow.Author.Rules.{rules}
+use Rattle.pages.proofs.lines_are_zero.Given as goal
+
+abbrev pub invariant-loop-k : goal.invariant-loop-k
+invariant-loop-k l = (l.n ≡ length l.page / slot_size) × (l.k ≤ l.n) × (every (λ s. is_zero (line_of s)) (drop l.k (parts l.n l.page)) ≡ every (λ s. is_zero (line_of s)) (parts l.n l.page))
+
+abbrev pub decreases-loop-k : goal.decreases-loop-k
+decreases-loop-k l = l.n - l.k

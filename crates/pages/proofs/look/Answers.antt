@@ -1,0 +1,6 @@
+-- `pages::look` meets its contract. Assumes nothing.
+use native.Mathlib.Omega.{arith}
+use Rattle.pages.proofs.look.Goals as goal
+
+pub returns : goal.returns
+returns c = c.look_over.ensures

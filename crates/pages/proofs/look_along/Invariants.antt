@@ -1,0 +1,28 @@
+-- `pages::look_along` meets its contract. Assumes nothing.
+use mathlib.Core.Path.{◌≡◌, refl, ◌∙◌, sym, ap}
+use mathlib.Core.Bool.{true}
+use mathlib.Core.Logic.{⊎_elim}
+use Prim.Native.Nat.{◌+◌, ◌-◌, ◌*◌, ◌≤◌}
+use native.Mathlib.Omega.{arith}
+use lib.ListN.{length, drop}
+use Rattle.names.specs.Ordering.{Row}
+use Rattle.names.specs.Names.{is_name}
+use Rattle.numbers.specs.Lists.{every}
+use Rattle.slots.specs.Tuples.{tuples_at, tuple_size}
+use Rattle.slots.specs.Slots.{head_size, size_over, keeps_over}
+use Rattle.slots.specs.Looks.{leads, seen}
+use Rattle.slots.proofs.NameTests.{leads_name, name_over_lem}
+use Rattle.slots.proofs.LookedAt.{keeps_name}
+use Rattle.pages.specs.Pages.{parts_over, rises_over}
+use Rattle.pages.proofs.SlotBySlot.{lent_over, lent_length_over}
+use Rattle.pages.proofs.LookedAlong.{told, told_first, told_turn, told_last, GoesOn, falls, climbs}
+use borrow.Author.Rules.{rules}
+use Rattle.pages.proofs.look_along.Given as goal
+
+abbrev pub invariant-loop-at : goal.invariant-loop-at
+invariant-loop-at l =
+    (l.at ≤ length l.page) × (l.from ≤ l.at) × (l.n ≤ l.room) × (leads (tuples_at (lent_over l.room l.page l.from) head_size l.n) ≡ true)
+    × (told l.room l.rising (tuples_at (lent_over l.room l.page l.from) head_size l.n) (parts_over l.room (drop l.at l.page)) ≡ seen (every (keeps_over l.room) (parts_over l.room l.page)) (rises_over l.room l.page))
+
+abbrev pub decreases-loop-at : goal.decreases-loop-at
+decreases-loop-at l = length l.page - l.at

@@ -1,0 +1,25 @@
+-- `pages::span_of` meets its contract. Assumes nothing.
+use mathlib.Core.Path.{refl, sym}
+use mathlib.Core.List.{[]}
+use Prim.Native.Nat.{◌*◌, ◌/◌, ◌≤◌}
+use native.Mathlib.Omega.{arith}
+use lib.ListN.{length, get_or-eq_default}
+use Rattle.slots.specs.Slots.{slot_size}
+use Rattle.pages.specs.Pages.{names_of}
+use Rattle.pages.proofs.SlotBySlot.{lent_tuples, length_names}
+use borrow.Author.Rules.{rules}
+use Rattle.pages.proofs.span_of.Goals as goal
+
+pub returns-then-k-page : goal.returns-then-k-page
+returns-then-k-page c =
+    let s = c.args.page.now in
+    let k = c.args.k in
+    let d = c.depth-count.ensures in
+    ((omega (arith, d), omega (arith, d)), lent_tuples s (length s / slot_size) k (slot_size * k) refl c.if-k-page.true c.depth-count.result d)
+
+pub returns : goal.returns
+returns c =
+    let s = c.args.page.now in
+    let k = c.args.k in
+    let h : length (names_of s) ≤ k = rw (length_names s (length s / slot_size)) c.if-k-page.false in
+    ((omega arith, omega arith), sym (get_or-eq_default (names_of s) [] h))

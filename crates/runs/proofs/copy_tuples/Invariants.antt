@@ -1,0 +1,18 @@
+-- `runs::copy_tuples` meets its contract. Assumes nothing.
+use mathlib.Core.Path.{◌≡◌, refl}
+use Prim.Native.Nat.{◌-◌, ◌*◌, ◌%◌, ◌≤◌}
+use native.Mathlib.Omega.{arith}
+use lib.ListN.{length, take, drop}
+use Rattle.numbers.specs.Bytes.{Octets, put}
+use Rattle.numbers.proofs.Put.{put_none}
+use Rattle.slots.specs.Tuples.{tuple_size}
+use Rattle.slots.proofs.CopiedTuples.{copied_on, copied_row}
+use borrow.Author.Rules.{rules}
+use Rattle.runs.proofs.copy_tuples.Given as goal
+
+-- i bytes stand, those of whole tuples
+abbrev pub invariant-loop-i : goal.invariant-loop-i
+invariant-loop-i l = (l.i ≤ tuple_size * l.n) × (l.i % tuple_size ≡ 0) × (length l.out ≡ length l.initial.out) × (l.out ≡ put l.initial.out l.p (take l.i (drop l.at l.s)))
+
+abbrev pub decreases-loop-i : goal.decreases-loop-i
+decreases-loop-i l = tuple_size * l.n - l.i
