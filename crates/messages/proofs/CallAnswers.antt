@@ -61,6 +61,7 @@ module _ (l : List Bytes) (room : ℕ) where
     is_malformed e = by (refused_first (write l room) tests e)
       where
         by : RefusedBy Malformed tests (write l room) → b ≡ false
+        by (test (Rattle.answers.specs.Laws.later _ x7)) = elim x7 [ ]
         by (test (here p q)) = p
         by (after p f) = absurd (let short = (write_refuses l room f).0 in let z : ◌≡◌ {A = ℕ} 0 1 = cc in omega arith)
 
@@ -68,6 +69,7 @@ module _ (l : List Bytes) (room : ℕ) where
     is_short e = by (refused_first (write l room) tests e)
       where
         by : RefusedBy Short tests (write l room) → (b ≡ true) × (room < length (flatten l))
+        by (test (Rattle.answers.specs.Laws.later _ x7)) = elim x7 [ ]
         by (test (here p q)) = absurd (let z : ◌≡◌ {A = ℕ} 0 1 = cc in omega arith)
         by (after p f) = (p.0, (write_refuses l room f).1)
 

@@ -162,6 +162,7 @@ when_too_deep page v room = (
     by : RefusedBy TooDeep (to_old_tests page) (write (old_pieces (slots_of page)) room) → SomeDeeper page
     by (test (here p q)) = absurd (let z : ◌≡◌ {A = ℕ} 0 1 = cc in omega arith)
     by (test (later p (here r q))) = absurd (let z : ◌≡◌ {A = ℕ} 0 1 = cc in omega arith)
+    by (test (later p (later r (later _ x13)))) = elim x13 [ ]
     by (test (later p (later r (here t q)))) = deeper (parts_of page) t
     by (after p f) = let short = (write_refuses (old_pieces (slots_of page)) room f).0 in absurd (let z : ◌≡◌ {A = ℕ} 0 1 = cc in omega arith)
 
