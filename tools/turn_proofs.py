@@ -67,6 +67,64 @@ def slices_of_sources():
                     SLICES["::".join([crate] + module + [m[1]])] = re.findall(r"(\w+): &(?:'\w+ )?mut \[", m[2])
 
 
+CLAUSES = {}
+
+
+def clauses_of_sources():
+    """crate::path::fn -> (parameters by name with their types, [(label, text) of ensures])."""
+    for crate in sorted(os.listdir("crates")):
+        src = os.path.join("crates", crate, "src")
+        for f in sorted(os.listdir(src)) if os.path.isdir(src) else []:
+            if not f.endswith(".rt"):
+                continue
+            module = [] if f in ("lib.rt", "main.rt") else [f[:-3]]
+            text = read(os.path.join(src, f))
+            for m in re.finditer(r"\bfn (\w+)(?:<[^>]*>)?\(([^)]*)\)[^{;]*?\n((?:    (?:requires|ensures)[^\n]*\n)*)", text):
+                params = re.findall(r"(\w+): ", m[2])
+                ens = re.findall(r"ensures (\w+) \{ (.*) \}", m[3])
+                CLAUSES["::".join([crate] + module + [m[1]])] = (params, ens)
+
+
+def clause_type(full):
+    """The types of a function's ensures at its return, with _ for the result and what is left."""
+    params, ens = CLAUSES.get(full, ([], []))
+    out = []
+    for label, text in ens:
+        text = re.sub(r"(?<![\w.'-])result(?:\.[\w.]+)?(?![\w'-])", "_", text)
+        text = re.sub(r"(?<![\w.'-])\w+\.new(?![\w'-])", "_", text)
+        for p in params:
+            text = re.sub(r"(?<![\w.'-])" + p + r"\.(?:old|now)(?![\w'-])", f"c.args.{p}.now", text)
+            text = re.sub(r"(?<![\w.'-])" + p + r"(?![\w'-])(?! =)", f"c.args.{p}", text)
+        out.append(text)
+    return out
+
+
+def missing_uses(crate, name, uses, types):
+    """The source's own imports of what the types name and the uses lack."""
+    parts = name.split("/")
+    src = f"crates/{crate}/src/"
+    path = src + parts[0] + ".rt" if len(parts) > 1 and os.path.exists(src + parts[0] + ".rt") else next(src + f for f in ("lib.rt", "main.rt") if os.path.exists(src + f))
+    have = set()
+    for u in uses:
+        m = re.search(r"\{(.*)\}", u)
+        if m:
+            have |= {w.strip().split(" as ")[-1] for w in m[1].split(",")}
+    text = " ".join(types)
+    out = []
+    for mod, names in re.findall(r"ghost use (\S+)\.\{([^}]*)\};", read(path)):
+        want = []
+        for w in names.split(","):
+            w = w.strip()
+            short = w.split(" as ")[-1]
+            word = short.replace("◌", "")
+            if short not in have and re.search(r"(?<![^\s(){}\[\];,@\"«».])" + re.escape(word) + r"(?![^\s(){}\[\];,@\"«».])", text):
+                want.append(w)
+                have.add(short)
+        if want:
+            out.append(f"use {mod}.{{{', '.join(want)}}}")
+    return out
+
+
 def names_of(crate):
     folder = f"/tmp/names-{crate}"
     subprocess.run(["rm", "-rf", folder])
@@ -173,6 +231,9 @@ class Turn:
                     k = re.match(r"\.(\d+)", rest)
                     if k:
                         return "c.requires." + self.labels[self.full][0][int(k[1])] + rest[k.end():]
+                own = self.labels.get(self.full, ([], []))[0]
+                if not rest and len(own) > 1:
+                    return "(" + ", ".join("c.requires." + l for l in own) + ")"
                 return "c.requires" + rest
             if step in ("lifetimes", "ranges", "well_formed", "type_inv", "good", "fits"):
                 return "c." + {"good": "well_formed", "fits": "ranges"}.get(step, step) + rest
@@ -215,6 +276,13 @@ class Turn:
                 bound.add(alias)
                 text = re.sub(r"[ \t]*let " + re.escape(alias) + " = " + re.escape(ident) + r" in[ \n]?", "    ", text)
         text = re.sub(r"(?<![\w.'-])([\w'₀-₉-]+)\.([\w'-]+)((?:\.[\w'₀-₉-]+)*)", one, text)
+        own = self.labels.get(self.full, ([], []))[0]
+        if len(own) > 1:
+            whole = "(" + ", ".join("c.requires." + l for l in own) + ")"
+            for alias in re.findall(r"let ([\w'-]+) = " + re.escape(whole) + r" in", text):
+                text = re.sub(r"[ \t]*let " + re.escape(alias) + " = " + re.escape(whole) + r" in\n?", "", text)
+                text = re.sub(r"(?<![\w.'-])" + re.escape(alias) + r"\.(\d)", lambda m: "c.requires." + own[int(m[1])], text)
+                text = re.sub(r"(?<![\w.'-])" + re.escape(alias) + r"(?![\w'.-])", whole, text)
         # a test of `!b` says b ≡ false or b ≡ true
         text = re.sub(r"\(not-(?:true|false) (?:\([^()]*\)|\S+) (c\.if-not-[\w-]+\.(?:true|false))\)", r"\1", text)
         text = re.sub(r"not-(?:true|false) (?:\([^()]*\)|\S+) (c\.if-not-[\w-]+\.(?:true|false))", r"\1", text)
@@ -233,7 +301,12 @@ class Turn:
             out.append(line)
         lines = [l for l in out if isinstance(l, str)]
         lets = [l for l in out if not isinstance(l, str)]
-        text = self.fields("\n".join(lines), bound)
+        text = "\n".join(lines)
+        for m in list(re.finditer(r"let ([\w'-]+) : tie\.([\w'-]+)[^=\n]*= search rules in ", text)):
+            bound.add(m[1])
+            lets.append((m[1], m[2], m[0]))
+        text = re.sub(r"let ([\w'-]+) : tie\.([\w'-]+)[^=\n]*= search rules in ", "", text)
+        text = self.fields(text, bound)
         # an arm on a call's result
         def arm(m):
             if m[2] not in self.told:
@@ -335,7 +408,7 @@ def turn(crate, name, data, labels):
             if k == "_":
                 del table[k]
         # a parameter in front of a dot
-        bodytext = re.sub(r"(?<![^\s(){}\[\];,@\"«»])(" + WORD + r")", lambda m: table.get(m[1], m[1]), bodytext)
+        bodytext = re.sub(r"(?<![^\s(){}\[\];,@\"«»])(" + WORD + r")(?!\s*=[^=]*[;}])", lambda m: table.get(m[1], m[1]), bodytext)
         new = f"{kind}-{newl}"
         inv_out.append("\n".join(comments + [f"abbrev pub {new} : goal.{new}"]) + "\n" + unf + f"{new} l ={bodytext}")
     # ── answers ──
@@ -347,6 +420,62 @@ def turn(crate, name, data, labels):
             for k in range(a1 - a0):
                 pairs[a0 + k] = data["needs"][b0 + k][1]
     ans_out = []
+    helpers = {}
+    left = []
+    same = set()
+    for it in others:
+        comments, nm, ty, bl = it
+        _, _, hty, hrest = typed(bl)
+        hdef = "\n".join(hrest)
+        hunf = ""
+        while hdef.startswith("unfolding "):
+            u, hdef = hdef.split("\n", 1)
+            hunf += u + "\n"
+        m = re.match(r"\s*(?:\((?:[\w'-]+) : )?tie\.([\w'-]+)(?: [\w'-]+)*\)? →\s*(.*)$", hty, re.S) if nm else None
+        head = re.match(re.escape(nm) + r"((?: [^\s=()]+)+) =(.*)$", hdef, re.S) if m else None
+        if not m or not head or re.search(r"(?m)^" + re.escape(nm) + r" ", head[2]):
+            left.append(it)
+            continue
+        args = head[1].split()
+        if re.match(r"tie\.", m[2].strip()):
+            same.add(nm)
+            continue
+        binder = re.match(r"\s*\(([\w'-]+) :", hty)
+        hbody, htype = head[2].strip("\n"), m[2].strip()
+        ident = args[0]
+        hbody = t.body(hbody, {ident, "c"})
+        htype = re.sub(r"let [\w'-]+ : tie\.[^=]*= search rules in\s*", "", htype)
+        bound = {ident, "c"} | ({binder[1]} if binder else set())
+        bound |= set(re.findall(r"let ([\w'-]+) : tie\.", m[2]))
+        htype = t.fields(htype, bound)
+        if ident != "c":
+            hbody = words(hbody, {ident: "c"})
+        lam = "".join(f"λ {x}. " for x in args[1:])
+        helpers[nm] = [htype, lam, hbody, hunf, comments]
+    others = left
+
+    def applied(text, idents):
+        """The helpers that a text applies to a place, which are its own lets then."""
+        used = []
+        for nm in same:
+            text = re.sub(r"\(" + re.escape(nm) + r" \(?([\w'-]+)\)?\)", r"\1", text)
+        for nm in helpers:
+            pat = r"(?<![\w.'-])" + re.escape(nm) + r" (?:\(([\w'-]+)\)|([\w'-]+))(?![\w'.-])"
+            hit = [m for m in re.finditer(pat, text) if (m[1] or m[2]) in idents]
+            if hit:
+                used.append(nm)
+                text = re.sub(pat, lambda m: nm if (m[1] or m[2]) in idents else m[0], text)
+                text = re.sub(r"\(" + re.escape(nm) + r"\)", nm, text)
+        return text, used
+
+    order = list(helpers)
+    for nm in order:
+        h = helpers[nm]
+        h[0], u0 = applied(h[0], {"c"})
+        h[2], u1 = applied(h[2], {"c"})
+        h[0] = t.fields(h[0], {"c"})
+        h[2] = t.fields(h[2], {"c"})
+        h.append(set(u0 + u1))
     for k, (comments, nm, label, rest) in enumerate(needs):
         text = "\n".join(rest)
         unf = ""
@@ -359,7 +488,20 @@ def turn(crate, name, data, labels):
         params = lhs.split()[1:]
         bound = {params[0]} if params else {"c"}
         goal = pairs.get(k)
+        bodytext, used = applied(bodytext, bound | set(re.findall(r"let ([\w'-]+) : tie\.", bodytext)))
         btext = t.body(bodytext.strip("\n"), bound)
+        todo = set(used)
+        while any(helpers[u][5] - todo for u in todo):
+            todo |= set().union(*(helpers[u][5] for u in todo))
+        if todo:
+            lets = ""
+            for u in order:
+                if u in todo:
+                    hty, lam, hb, hunf, _ = helpers[u][:5]
+                    unf = unf + "".join(l + "\n" for l in hunf.split("\n") if l and l + "\n" not in unf)
+                    one = hb.strip()
+                    lets += f"    let {u} : {hty} =\n      {lam}{one} in\n" if "\n" in one or lam else f"    let {u} : {hty} = {one} in\n"
+            btext = lets + ("    " + btext.strip() if "\n" not in btext.strip("\n") else btext.strip("\n"))
         look = ""
         if goal is None:
             look = f"-- LOOK: no goal for {label}\n"
@@ -368,7 +510,7 @@ def turn(crate, name, data, labels):
                 continue
         lab = labels.get(t.full, ([], []))[1]
         if goal.startswith("returns") and len(lab) > 1:
-            btext = clauses(btext, lab)
+            btext = clauses(btext, lab, clause_type(t.full))
         if goal.endswith("-requires") or re.search(r"-requires(-\d+)?$", goal):
             step = norm(re.sub(r"-requires.*", "", data_old(data, goal)))
             callee = t.callee.get(step)
@@ -378,8 +520,14 @@ def turn(crate, name, data, labels):
         entry = "\n".join(comments) + ("\n" if comments else "") + look + f"pub {goal} : goal.{goal}\n{unf}{goal} c =" + ("\n" if "\n" in btext else "") + btext
         ans_out.append(entry)
     helper = []
+    shared, shared_names = [], []
     for comments, nm, ty, b in others:
         text = "\n".join(b)
+        if nm and "tie." not in text and re.search(r"(?<![\w.'-])" + re.escape(nm) + r"(?![\w'-])", "\n".join(inv_out)):
+            shared_names.append(nm)
+            k = len(comments)
+            shared.append("\n".join(b[:k] + [b[k] if "pub " in b[k] else (re.sub(r"^(abbrev|unfoldable) ", r"\1 pub ", b[k]) if re.match(r"abbrev|unfoldable", b[k]) else "pub " + b[k])] + b[k + 1:]))
+            continue
         if "tie." in text:
             binders = set(re.findall(r"\(([\w'-]+) : tie\.", text))
             def place(m):
@@ -401,15 +549,17 @@ def turn(crate, name, data, labels):
     os.replace(path, kept + "/Proof.antt")
     wrote = []
     if inv_out:
-        text = "\n".join(note + [u for u in uses] + [f"use Rattle.{crate}.proofs.{mod}.Given as goal", ""]) + "\n" + "\n\n".join(inv_out) + "\n"
+        text = "\n".join(note + [u for u in uses] + [f"use Rattle.{crate}.proofs.{mod}.Given as goal", ""]) + "\n" + "\n\n".join(shared + inv_out) + "\n"
         with open(folder + "/Invariants.antt", "w") as f:
             f.write(text)
         wrote.append("Invariants")
     if ans_out:
         whole = "\n".join(helper + ans_out)
+        if "let both : " in whole:
+            uses = uses + missing_uses(crate, name, uses, re.findall(r"let both : (.*) =$", whole, re.M))
         places = sorted(p for p in t.used if re.search(r"(?<![\w.'-])" + re.escape(p) + r"(?![\w'-])", whole))
         from_goals = [f"use Rattle.{crate}.proofs.{mod}.Goals.{{{', '.join(places)}}}"] if places else []
-        text = "\n".join((note if not inv_out else []) + uses + [f"use Rattle.{crate}.proofs.{mod}.Goals as goal"] + from_goals + [""]) + "\n" + "\n\n".join(helper + ans_out) + "\n"
+        text = "\n".join((note if not inv_out else []) + uses + [f"use Rattle.{crate}.proofs.{mod}.Goals as goal"] + from_goals + ([f"use Rattle.{crate}.proofs.{mod}.Invariants.{{{', '.join(shared_names)}}}"] if shared_names else []) + [""]) + "\n" + "\n\n".join(helper + ans_out) + "\n"
         with open(folder + "/Answers.antt", "w") as f:
             f.write(text)
         wrote.append("Answers")
@@ -425,7 +575,7 @@ def data_old(data, goal):
     return goal
 
 
-def clauses(btext, lab):
+def clauses(btext, lab, types=()):
     """The last term, a tuple of as many parts as there are clauses, as a record."""
     lines = btext.split("\n")
     # the final term starts after the last `in` at the end of a line
@@ -437,6 +587,11 @@ def clauses(btext, lab):
     if parts and len(parts) == len(lab):
         rec = "    record {\n" + "".join(f"      {l} = {p};\n" for l, p in zip(lab, parts)) + "    }"
         return "\n".join(lines[:k] + [rec])
+    if len(types) == len(lab):
+        lead = lines[:k]
+        both = " × ".join(f"({ty})" for ty in types)
+        rec = " ".join(f"{l} = both.{i};" for i, l in enumerate(lab))
+        return "\n".join(lead + [f"    let both : {both} =", "      " + final.strip(), f"    in record {{ {rec} }}"])
     return btext + "\n    -- LOOK: clauses " + " ".join(lab)
 
 
@@ -445,6 +600,7 @@ def main(argv):
     names = names_of(crate)
     labels = labels_of_sources()
     slices_of_sources()
+    clauses_of_sources()
     for key, data in sorted(names.items()):
         m = re.match(r"Rattle-\w+-proofs\.(.*)\.Lts$", key)
         if not m:

@@ -156,15 +156,19 @@ without_placed x (y ∷ l) e = by (is_less (compare_rows x.name y.name)) (withou
     by false f = rw (absent_tail x y l (compare_rows y.name x.name) refl e).0 (ap (λ (r : List Slot). y ∷ r) f)
 
 -- the row had that slot: it comes back
-in_over : {a : Row} {x : Slot} {l : List Slot} → Over a (map name_in l) → In x l → a <ⁿ x.name
-in_over {l = []} o m = absurd (Memᴰ.not-nil m)
-in_over {a} {x} {l = y ∷ l} (over_more h o) m = elim (Memᴰ.cases_cons m) [ inl e ↦ rw (← e) at h | inr k ↦ in_over o k ]
+in_over : {a : Row} {x : Slot} {v : List Row} (l : List Slot) → Over a v → v ≡ map name_in l → In x l → a <ⁿ x.name
+in_over [] o e m = absurd (Memᴰ.not-nil m)
+in_over (y ∷ l) over_none e m = absurd (cc)
+in_over {a} {x} (y ∷ l) (over_more {x = b} {l = v} h o) e m =
+    let here : b ≡ y.name = cc in
+    let rest : v ≡ map name_in l = cc in
+    elim (Memᴰ.cases_cons m) [ inl q ↦ rw (q, ← here) h | inr k ↦ in_over l o rest k ]
 
 placed_without : (x : Slot) (l : List Slot) → Rising (map name_in l) → In x l → placed x (without x.name l) ≡ l
 placed_without x [] r m = absurd (Memᴰ.not-nil m)
 placed_without x (y ∷ l) r m = elim (Memᴰ.cases_cons m) [
   | inl e ↦ first e
-  | inr k ↦ later (in_over (rising_over r) k) (placed_without x l (tail_rising r) k)
+  | inr k ↦ later (in_over l (rising_over r) refl k) (placed_without x l (tail_rising r) k)
 ]
   where
     first : x ≡ y → placed x (without x.name (y ∷ l)) ≡ y ∷ l

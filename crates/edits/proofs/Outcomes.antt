@@ -1,7 +1,7 @@
 -- The outcomes of insert and remove, case by case as the code meets them. Assumes nothing.
-use mathlib.Core.Path.{◌≡◌, refl, ◌∙◌, sym, ap}
-use mathlib.Core.List.{List, [], ◌∷◌, ◌++◌, flatten}
-use mathlib.Core.Bool.{Bool, true, false}
+use mathlib.Core.Path.{◌≡◌, ◌∙◌, ap}
+use mathlib.Core.List.{List, ◌∷◌, ◌++◌, flatten}
+use mathlib.Core.Bool.{true, false}
 use Prim.Native.Nat.{ℕ, suc, ◌+◌, ◌-◌, ◌*◌, ◌/◌, ◌<◌, ◌≤◌}
 use native.Mathlib.Omega.{arith}
 use borrow.Author.Tests.{lt-ltb, le-ltb}
@@ -10,7 +10,7 @@ use Rattle.names.proofs.Laws.{rising_Rising}
 use Rattle.numbers.specs.Bytes.{Bytes, Octets}
 use Rattle.slots.specs.Slots.{Slot, slot_size, name_of, slot_of, keeps_slot, slot_bytes}
 use Rattle.slots.proofs.RoundTrip.{kept}
-use Rattle.answers.specs.Answers.{Outcome, Test, ask, in_order, refuse, write}
+use Rattle.answers.specs.Answers.{Outcome, in_order, refuse, write}
 use Rattle.pages.specs.Pages.{max_slots, slots_of, names_of, pieces, keeps_layout, rises}
 use Rattle.pages.specs.Places.{below, has, place_of}
 use Rattle.pages.specs.declared.Place.TheVariants.{Here, Gap}

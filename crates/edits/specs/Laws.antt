@@ -1,6 +1,6 @@
 -- What insert and remove do to a page, beyond 01's own sentences. A page and a slot are bytes (`Octets`: each is below 256), room is the
 -- length of an output. Proved in proofs/Books.antt: `insert_law`, `remove_law`.
-use Rattle.std.specs.Prelude.{◌≡◌, true, ℕ, ◌≤◌, length}
+use Rattle.std.specs.Prelude.{◌≡◌, ℕ, ◌≤◌, length}
 use mathlib.Core.List.{Memᴰ as In}
 use Rattle.numbers.specs.Bytes.{Bytes, Octets}
 use Rattle.slots.specs.Slots.{name_of, slot_of}

@@ -2,7 +2,6 @@
 use mathlib.Core.Path.{◌≡◌, refl, ◌∙◌, sym}
 use mathlib.Core.List.{[], ◌∷◌}
 use mathlib.Core.Bool.{Bool, true, false}
-use borrow.Author.Tests.{not-true, not-false}
 use Rattle.answers.specs.Answers.{◌else◌, in_order}
 use Rattle.answers.specs.declared.Refusal.TheVariants.{BadLayout, NotRising}
 use Rattle.slots.specs.Slots.{keeps_slot}
@@ -10,7 +9,6 @@ use Rattle.slots.proofs.LookedAt.{tells_broken, tells_falling, tells_rising}
 use Rattle.pages.specs.Pages.{keeps_layout, rises}
 use Rattle.edits.specs.declared.Checked.{Checked}
 use Rattle.edits.specs.declared.Checked.TheVariants.{Refused, Passed}
-use borrow.Author.Rules.{rules}
 use Rattle.edits.proofs.check_edit.Goals as goal
 
 -- a slot that breaks its layout, whatever the page

@@ -3,13 +3,16 @@ use mathlib.Core.Path.{◌∙◌, sym}
 use Rattle.slots.proofs.RoundTrip.{kept}
 use Rattle.answers.proofs.Outcomes.{refused}
 use Rattle.edits.proofs.Outcomes.{checked, remove_refused, remove_absent}
-use borrow.Author.Rules.{rules}
+use Rattle.std.specs.Prelude.{◌≡◌, length}
+use Rattle.answers.specs.Answers.{leaves}
+use Rattle.edits.specs.Edits.{remove_outcome}
 use Rattle.edits.proofs.remove.Goals as goal
 
 pub returns-in-Refused : goal.returns-in-Refused
 returns-in-Refused c =
-    refused _ _ _ (remove_refused c.args.page.now c.args.slot.now _ _ (sym c.check_edit.ensures ∙ c.in-Refused.is))
-    -- LOOK: clauses value out_after
+    let both : (_ ≡ (remove_outcome c.args.page.now c.args.slot.now (length c.args.out.now)).answer) × (_ ≡ leaves (remove_outcome c.args.page.now c.args.slot.now (length c.args.out.now)) c.args.out.now) =
+      refused _ _ _ (remove_refused c.args.page.now c.args.slot.now _ _ (sym c.check_edit.ensures ∙ c.in-Refused.is))
+    in record { value = both.0; out_after = both.1; }
 
 pub find-requires : goal.find-requires
 find-requires c =
@@ -30,5 +33,6 @@ returns-in-Gap c =
     let page = c.args.page.now in
     let slot = c.args.slot.now in
     let p = checked page slot (sym c.check_edit.ensures ∙ c.in-Passed.is) in
-    refused _ _ _ (remove_absent page slot _ _ p (sym c.find.ensures ∙ c.in-Gap.is))
-    -- LOOK: clauses value out_after
+    let both : (_ ≡ (remove_outcome c.args.page.now c.args.slot.now (length c.args.out.now)).answer) × (_ ≡ leaves (remove_outcome c.args.page.now c.args.slot.now (length c.args.out.now)) c.args.out.now) =
+      refused _ _ _ (remove_absent page slot _ _ p (sym c.find.ensures ∙ c.in-Gap.is))
+    in record { value = both.0; out_after = both.1; }

@@ -7,7 +7,6 @@ use Prim.Native.Nat.{◌+◌, ◌*◌, ◌-◌}
 use native.Mathlib.Omega.{arith}
 use Rattle.slots.specs.Slots.{slot_size}
 use Rattle.numbers.proofs.Put.{put_more}
-use borrow.Author.Rules.{rules}
 use Rattle.edits.proofs.write_without.Goals as goal
 
 pub slice_bounds-copy_long-end : goal.slice_bounds-copy_long-end

@@ -1,13 +1,11 @@
 -- `new_names::close_by` meets its contract. Assumes nothing.
 use Prim.Native.Nat.{◌<◌, ◌≤◌}
 use mathlib.Core.Path.{◌∙◌, sym}
-use borrow.Author.Tests.{not-true, not-false}
 use lib.ListN.{length}
 use Rattle.slots.specs.Tuples.{row_at}
 use Rattle.slots.proofs.TuplesInBytes.{length_tuples_at, get_or_tuples_at}
 use Rattle.new_names.proofs.Rules.{close_short, close_apart, close_before}
 use Rattle.new_names.proofs.PartsOfNames.{given}
-use borrow.Author.Rules.{rules}
 use Rattle.new_names.proofs.close_by.Goals as goal
 
 pub returns-then-b-a : goal.returns-then-b-a

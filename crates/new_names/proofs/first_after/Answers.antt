@@ -2,7 +2,6 @@
 use native.Mathlib.Omega.{arith}
 use mathlib.Core.Path.{◌∙◌}
 use Rattle.new_names.proofs.Prefixes.{after_none, after_first}
-use borrow.Author.Rules.{rules}
 use Rattle.new_names.proofs.first_after.Goals as goal
 
 pub returns-then-b-lt1 : goal.returns-then-b-lt1

@@ -2,7 +2,6 @@
 use native.Mathlib.Omega.{arith}
 use mathlib.Core.Path.{◌∙◌}
 use Rattle.new_names.proofs.Prefixes.{before_none, before_first}
-use borrow.Author.Rules.{rules}
 use Rattle.new_names.proofs.first_before.Goals as goal
 
 pub returns-then-a-lt1 : goal.returns-then-a-lt1

@@ -5,7 +5,6 @@ use mathlib.Core.Option.{none, some}
 use lib.ListN.{drop}
 use Rattle.slots.specs.Tuples.{row_at}
 use Rattle.new_names.proofs.Prefixes.{rest_longer, rest_compared}
-use borrow.Author.Rules.{rules}
 use Rattle.new_names.proofs.is_prefix.Goals as goal
 
 pub returns-then-b-a : goal.returns-then-b-a

@@ -1,4 +1,4 @@
-use Prim.Native.Nat.{ℕ, ◌-◌, ◌<◌, ◌≤◌}
+use Prim.Native.Nat.{ℕ, ◌<◌}
 use native.Mathlib.Omega.{arith}
 use mathlib.Core.Path.{◌≡◌, refl, subst, ap, ◌∙◌}
 use mathlib.Core.List.{[], ◌∷◌, ◌++◌}
@@ -9,14 +9,13 @@ use Rattle.names.specs.Names.{limit, value_of}
 use Rattle.name_values.proofs.JoinedRows.{value_more, take_more}
 use Rattle.new_names.specs.FoundParts.{parts_of}
 use Rattle.new_names.proofs.PartsOfNames.{parts_length}
-use borrow.Author.Rules.{rules}
 use Rattle.new_names.proofs.made.Goals as goal
 
 pub loop-k-init : goal.loop-k-init
 loop-k-init c =    (refl, omega arith, λ i. record { depth = 0; tuples = replicate limit (c.low_marker-tuples.ensures i) })
 
 pub part_at-requires : goal.part_at-requires
-part_at-requires c =    let start : tie.Start invariant-loop decreases-loop = search rules in (start.pre.0.0, omega arith)
+part_at-requires c =    (c.requires.0.0, omega arith)
 
 pub loop-k-preserved : goal.loop-k-preserved
 loop-k-preserved c =

@@ -8,7 +8,6 @@ use Rattle.slots.specs.Tuples.{row_at}
 use Rattle.new_names.specs.NewNames.{first_before, first_after, own}
 use Rattle.new_names.proofs.Rules.{new_apart, new_close}
 use Rattle.new_names.proofs.PartsOfNames.{given}
-use borrow.Author.Rules.{rules}
 use Rattle.new_names.proofs.new_between.Goals as goal
 
 pub returns-then-low-high : goal.returns-then-low-high

@@ -1,7 +1,6 @@
 -- `new_names::new_name` meets its contract. Assumes nothing.
 use mathlib.Core.Path.{ap, ◌∙◌}
 use Rattle.names.specs.Names.{value_of}
-use borrow.Author.Rules.{rules}
 use Rattle.new_names.proofs.new_name.Goals as goal
 
 pub returns : goal.returns

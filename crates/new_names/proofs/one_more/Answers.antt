@@ -2,7 +2,6 @@
 use native.Mathlib.Omega.{arith}
 use mathlib.Core.List.{[], ◌∷◌}
 use Rattle.new_names.proofs.PartsOfNames.{deep, grown}
-use borrow.Author.Rules.{rules}
 use Rattle.new_names.proofs.one_more.Goals as goal
 
 pub returns-then-depth-gt-LIMIT : goal.returns-then-depth-gt-LIMIT

@@ -3,7 +3,6 @@ use native.Mathlib.Omega.{arith}
 use Prim.Native.Nat.{◌+◌}
 use mathlib.Core.Path.{◌≡◌, ◌∙◌}
 use Rattle.new_names.proofs.PartsOfNames.{part_standing, part_first, part_second}
-use borrow.Author.Rules.{rules}
 use Rattle.new_names.proofs.part_at.Goals as goal
 
 pub returns-then-k-p : goal.returns-then-k-p

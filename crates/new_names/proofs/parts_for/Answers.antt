@@ -1,6 +1,6 @@
 -- `new_names::parts_for` meets its contract. Assumes nothing.
 use native.Mathlib.Omega.{arith}
-use mathlib.Core.Path.{◌≡◌, ◌∙◌, sym}
+use mathlib.Core.Path.{◌≡◌}
 use mathlib.Core.Bool.{true, false}
 use borrow.Author.Tests.{le-leb, lt-leb}
 use lib.Dec.{leb}
@@ -11,19 +11,7 @@ use Rattle.pages.specs.Pages.{slots_of, keeps_layout, rises}
 use Rattle.pages.proofs.SlotBySlot.{length_slots}
 use Rattle.new_names.specs.NewNames.{new_name_outcome, new_name}
 use Rattle.new_names.proofs.PartsOfNames.{given}
-use borrow.Author.Rules.{rules}
 use Rattle.new_names.proofs.parts_for.Goals as goal
-use Rattle.new_names.proofs.parts_for.Goals.{In-Rising, Start}
-
--- LOOK
--- past the first two tests
-abbrev page : In-Rising → Bytes
-page c = let s : Start = search rules in c.args.page.now
-
--- LOOK
-sound : (c : In-Rising) → (keeps_layout (page c) ≡ true) × (rises (page c) ≡ true)
-sound c =
-    tells_rising (keeps_layout (page c)) (rises (page c)) (sym c.in-Rising.is ∙ c.look.ensures)
 
 pub returns-in-Broken : goal.returns-in-Broken
 unfolding new_name_outcome
@@ -41,26 +29,29 @@ returns-in-NotRising c =
 pub returns-then-author-lt1 : goal.returns-then-author-lt1
 unfolding new_name_outcome
 returns-then-author-lt1 c =
-    let k : In-Rising = search rules in
+    let page : Bytes = c.args.page.now in
+    let sound : (keeps_layout page ≡ true) × (rises page ≡ true) = tells_rising (keeps_layout page) (rises page) (c.in-Rising.ensures) in
     let node : leb 1 c.args.author.node ≡ false = lt-leb 1 c.args.author.node c.if-author-lt1.true in
-    simp ((sound k).0, (sound k).1, node) (c.refused-then-author-lt1.ensures c.args.page.now)
+    simp (sound.0, sound.1, node) (c.refused-then-author-lt1.ensures c.args.page.now)
 
 pub returns-then-page-gap : goal.returns-then-page-gap
 unfolding new_name_outcome
 returns-then-page-gap c =
-    let k : In-Rising = search rules in
+    let page : Bytes = c.args.page.now in
+    let sound : (keeps_layout page ≡ true) × (rises page ≡ true) = tells_rising (keeps_layout page) (rises page) (c.in-Rising.ensures) in
     let n = length (slots_of c.args.page.now) in
     let node : leb 1 c.args.author.node ≡ true = le-leb 1 c.args.author.node c.if-author-lt1.false in
     let gap : leb c.args.gap n ≡ false = lt-leb c.args.gap n (omega (arith, length_slots c.args.page.now)) in
-    simp ((sound k).0, (sound k).1, node, gap) (c.refused-then-page-gap.ensures c.args.page.now)
+    simp (sound.0, sound.1, node, gap) (c.refused-then-page-gap.ensures c.args.page.now)
 
 pub returns : goal.returns
 unfolding new_name_outcome
 returns c =
-    let k : In-Rising = search rules in
+    let page : Bytes = c.args.page.now in
+    let sound : (keeps_layout page ≡ true) × (rises page ≡ true) = tells_rising (keeps_layout page) (rises page) (c.in-Rising.ensures) in
     let n = length (slots_of c.args.page.now) in
     let node : leb 1 c.args.author.node ≡ true = le-leb 1 c.args.author.node c.if-author-lt1.false in
     let gap : leb c.args.gap n ≡ true = le-leb c.args.gap n (omega (arith, length_slots c.args.page.now)) in
     let r = c.new_between.result in
     let w = given c.args.page.now r (λ i. new_name c.args.author (c.span_before-a.ensures.1 i) (c.span_of-b.ensures.1 i)) c.new_between.ensures in
-    simp ((sound k).0, (sound k).1, node, gap) w
+    simp (sound.0, sound.1, node, gap) w

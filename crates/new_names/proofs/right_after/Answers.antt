@@ -3,7 +3,6 @@ use mathlib.Core.List.{[], ◌∷◌, ◌++◌}
 use mathlib.Core.Option.{some}
 use Rattle.slots.specs.Tuples.{row_at}
 use Rattle.new_names.proofs.PartsOfNames.{given}
-use borrow.Author.Rules.{rules}
 use Rattle.new_names.proofs.right_after.Goals as goal
 
 pub returns : goal.returns

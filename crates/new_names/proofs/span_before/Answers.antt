@@ -3,7 +3,6 @@ use native.Mathlib.Omega.{arith}
 use mathlib.Core.Path.{◌∙◌}
 use Rattle.pages.specs.Pages.{names_of}
 use Rattle.new_names.proofs.Prefixes.{before_zero, before_suc}
-use borrow.Author.Rules.{rules}
 use Rattle.new_names.proofs.span_before.Goals as goal
 
 pub returns-then-gap-lt1 : goal.returns-then-gap-lt1

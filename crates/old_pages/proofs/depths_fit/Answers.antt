@@ -1,9 +1,8 @@
 use mathlib.Core.Path.{◌≡◌, refl, ◌∙◌, sym, ap}
-use mathlib.Core.Bool.{Bool}
-use Prim.Native.Nat.{ℕ, ◌*◌, ◌-◌, ◌/◌, ◌≤◌, min}
+use Prim.Native.Nat.{ℕ, ◌*◌, ◌/◌, min}
 use native.Mathlib.Omega.{arith}
 use borrow.Author.Tests.{le-leb, lt-leb}
-use lib.ListN.{length, drop}
+use lib.ListN.{length}
 use Rattle.names.specs.Names.{limit}
 use Rattle.numbers.specs.Bytes.{Bytes}
 use Rattle.numbers.specs.Lists.{every}
@@ -14,11 +13,8 @@ use Rattle.slots.proofs.NameTests.{name_is}
 use Rattle.pages.specs.Pages.{parts, slots_of, name_in, names_of}
 use Rattle.pages.proofs.SlotBySlot.{lent, lent_length, part_at, part_end}
 use Rattle.old_pages.specs.OldPages.{old_limit, fits_old}
-use borrow.Author.Rules.{rules}
 use Rattle.old_pages.proofs.depths_fit.Goals as goal
-
-abbrev shallow : Bytes → Bool
-shallow s = fits_old (name_of s)
+use Rattle.old_pages.proofs.depths_fit.Invariants.{shallow}
 
 -- the names' depths are those of the slots
 over_names : (s : Bytes) → every shallow (parts (length s / slot_size) s) ≡ every fits_old (names_of s)

@@ -1,20 +1,15 @@
-use mathlib.Core.Path.{◌≡◌, refl, ◌∙◌}
-use mathlib.Core.List.{List, []}
-use Prim.Native.Nat.{◌+◌, ◌*◌, ◌-◌, ◌/◌, ◌<◌, ◌≤◌}
+use mathlib.Core.Path.{refl, ◌∙◌}
+use mathlib.Core.List.{[]}
+use Prim.Native.Nat.{◌+◌, ◌*◌, ◌/◌, ◌<◌, ◌≤◌}
 use native.Mathlib.Omega.{arith}
-use borrow.Author.Rules.{rules}
 use lib.ListN.{length}
-use Rattle.numbers.specs.Bytes.{Bytes, Octets}
-use Rattle.numbers.proofs.Pieces.{standing, standing_first, standing_last, standing_on, same_room}
+use Rattle.numbers.specs.Bytes.{Octets}
+use Rattle.numbers.proofs.Pieces.{standing_first, standing_last, standing_on, same_room}
 use Rattle.slots.specs.Slots.{bytes_over, slot_size, slot_of}
-use Rattle.pages.specs.Pages.{slots_of}
-use Rattle.old_pages.specs.OldPages.{old_limit, old_size, old_pieces}
+use Rattle.old_pages.specs.OldPages.{old_limit, old_size}
 use Rattle.old_pages.proofs.ConvertedSlots.{cut_lent, old_piece, old_long, length_old}
 use Rattle.old_pages.proofs.write_old.Goals as goal
-
--- the slots that are to be written
-abbrev cut_pieces : Bytes → List Bytes
-cut_pieces page = old_pieces (slots_of page)
+use Rattle.old_pages.proofs.write_old.Invariants.{cut_pieces}
 
 pub loop-k-init : goal.loop-k-init
 loop-k-init c = (refl, omega arith, refl, refl)

@@ -1,17 +1,18 @@
 -- `old_pages::write_old` meets its contract. Assumes nothing.
-use mathlib.Core.Path.{◌≡◌, refl, ◌∙◌}
-use mathlib.Core.List.{List, []}
-use Prim.Native.Nat.{◌+◌, ◌*◌, ◌-◌, ◌/◌, ◌<◌, ◌≤◌}
-use native.Mathlib.Omega.{arith}
-use borrow.Author.Rules.{rules}
+use mathlib.Core.Path.{◌≡◌}
+use mathlib.Core.List.{List}
+use Prim.Native.Nat.{◌-◌, ◌/◌, ◌≤◌}
 use lib.ListN.{length}
-use Rattle.numbers.specs.Bytes.{Bytes, Octets}
-use Rattle.numbers.proofs.Pieces.{standing, standing_first, standing_last, standing_on, same_room}
-use Rattle.slots.specs.Slots.{bytes_over, slot_size, slot_of}
+use Rattle.numbers.specs.Bytes.{Bytes}
+use Rattle.numbers.proofs.Pieces.{standing}
+use Rattle.slots.specs.Slots.{slot_size}
 use Rattle.pages.specs.Pages.{slots_of}
-use Rattle.old_pages.specs.OldPages.{old_limit, old_size, old_pieces}
-use Rattle.old_pages.proofs.ConvertedSlots.{cut_lent, old_piece, old_long, length_old}
+use Rattle.old_pages.specs.OldPages.{old_size, old_pieces}
 use Rattle.old_pages.proofs.write_old.Given as goal
+
+-- the slots that are to be written
+abbrev pub cut_pieces : Bytes → List Bytes
+cut_pieces page = old_pieces (slots_of page)
 
 abbrev pub invariant-loop-k : goal.invariant-loop-k
 invariant-loop-k l =
