@@ -12,7 +12,7 @@ use Rattle.slots.specs.Slots.{Slot, slot_bytes, name_of, slot_of, is_slot}
 use Rattle.answers.specs.declared.Answer.{Answer}
 use Rattle.answers.specs.declared.Answer.TheVariants.{Accepted, Refused}
 use Rattle.answers.specs.declared.Refusal.TheVariants.{BadLayout, NotRising}
-use Rattle.answers.specs.Answers.{◌else◌, Outcome, in_order, refuse, accept, write, outcome}
+use Rattle.answers.specs.Answers.{◌else◌, Outcome, in_order, refuse, accept, write}
 use Rattle.answers.specs.Laws.{Passed}
 use Rattle.answers.proofs.Outcomes.{no_answer, write_accepted}
 use Rattle.answers.proofs.Refusals.{passed, accepted_passes}

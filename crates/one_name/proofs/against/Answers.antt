@@ -2,7 +2,6 @@
 use mathlib.Core.Path.{◌∙◌, ap}
 use Rattle.names.specs.Ordering.{compare_rows}
 use Rattle.slots.specs.Tuples.{row_at}
-use borrow.Author.Rules.{rules}
 use Rattle.one_name.proofs.against.Goals as goal
 
 pub compare_rows-requires : goal.compare_rows-requires

@@ -1,7 +1,6 @@
 -- `one_name::ahead` meets its contract. Assumes nothing.
 use Rattle.names.specs.Names.{row_of}
 use Rattle.name_values.proofs.GivenRows.{joins}
-use borrow.Author.Rules.{rules}
 use Rattle.one_name.proofs.ahead.Goals as goal
 
 pub returns : goal.returns

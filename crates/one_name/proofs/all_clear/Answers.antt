@@ -1,8 +1,7 @@
-use mathlib.Core.Path.{◌≡◌, refl, ◌∙◌, sym, ap}
+use mathlib.Core.Path.{refl, ◌∙◌, sym, ap}
 use mathlib.Core.Bool.{Bool, ◌&&◌}
-use Prim.Native.Nat.{◌-◌, ◌/◌, ◌+◌, ◌≤◌, ◌<◌}
+use Prim.Native.Nat.{◌/◌, ◌+◌, ◌≤◌, ◌<◌}
 use native.Mathlib.Omega.{arith}
-use borrow.Author.Tests.{not-true, not-false}
 use lib.ListN.{length, drop}
 use Rattle.names.specs.Names.{is_name}
 use Rattle.names.proofs.Validity.{valid_name}
@@ -14,7 +13,6 @@ use Rattle.pages.proofs.RoundTrip.{page_names}
 use Rattle.pages.proofs.SlotBySlot.{length_names}
 use Rattle.one_name.specs.Stems.{clear_from}
 use Rattle.one_name.proofs.EachName.{turn}
-use borrow.Author.Rules.{rules}
 use Rattle.one_name.proofs.all_clear.Goals as goal
 
 pub loop-k-init : goal.loop-k-init

@@ -9,7 +9,6 @@ use Rattle.pages.specs.Pages.{names_of}
 use Rattle.name_renames.proofs.Alone.{alone_under, alone_over, alone_in_gap}
 use Rattle.one_name.proofs.CheckedLog.{logged}
 use Rattle.one_name.proofs.TestedSides.{under_first, from_first, over_last, to_last, low_is, high_is, index_read, restored}
-use borrow.Author.Rules.{rules}
 use Rattle.one_name.proofs.alone_of.Goals as goal
 
 pub returns-then-is_below : goal.returns-then-is_below

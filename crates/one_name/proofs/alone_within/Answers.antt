@@ -10,7 +10,6 @@ use Rattle.pages.specs.Pages.{names_of}
 use Rattle.name_renames.specs.Alone.{index_in, in_gap}
 use Rattle.name_renames.proofs.Alone.{alone_short, alone_long}
 use Rattle.one_name.proofs.TestedSides.{index_read, next_logged}
-use borrow.Author.Rules.{rules}
 use Rattle.one_name.proofs.alone_within.Goals as goal
 
 pub returns-then-c-lt2 : goal.returns-then-c-lt2

@@ -9,7 +9,6 @@ use Rattle.one_name.specs.Backs.{over_shape}
 use Rattle.one_name.proofs.CheckedLog.{logged}
 use Rattle.one_name.proofs.TestedSides.{last_is, under_first, from_first, over_last, to_last, low_is, high_is}
 use Rattle.one_name.proofs.Shapes.{shape_low, shape_high, shape_within}
-use borrow.Author.Rules.{rules}
 use Rattle.one_name.proofs.back_of.Goals as goal
 
 pub under-requires : goal.under-requires

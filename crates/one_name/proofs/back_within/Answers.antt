@@ -13,7 +13,6 @@ use Rattle.name_renames.specs.Alone.{index_in}
 use Rattle.one_name.specs.declared.Back.TheVariants.{Restored}
 use Rattle.one_name.specs.Backs.{between_shape, within_shape}
 use Rattle.one_name.proofs.TestedSides.{index_read, next_logged}
-use borrow.Author.Rules.{rules}
 use Rattle.one_name.proofs.back_within.Goals as goal
 
 pub index_of-k-requires : goal.index_of-k-requires

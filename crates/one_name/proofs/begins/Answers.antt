@@ -6,7 +6,6 @@ use Rattle.names.specs.Ordering.{Row, compare_rows, is_same}
 use Rattle.names.proofs.TestedOrder.{first_none}
 use Rattle.slots.specs.Tuples.{row_at}
 use Rattle.slots.proofs.TuplesInBytes.{length_tuples_at, take_tuples_at}
-use borrow.Author.Rules.{rules}
 use Rattle.one_name.proofs.begins.Goals as goal
 
 pub returns-then-x-lt1 : goal.returns-then-x-lt1

@@ -2,7 +2,6 @@
 use mathlib.Core.Path.{refl}
 use Rattle.names.specs.Names.{row_of}
 use Rattle.name_values.proofs.GivenRows.{joins}
-use borrow.Author.Rules.{rules}
 use Rattle.one_name.proofs.behind.Goals as goal
 
 pub returns : goal.returns

@@ -12,7 +12,6 @@ use Rattle.pages.proofs.SlotBySlot.{length_names}
 use Rattle.name_renames.proofs.ByTest.{chosen}
 use Rattle.one_name.specs.declared.Back.TheVariants.{Behind}
 use Rattle.one_name.specs.Backs.{under_shape}
-use borrow.Author.Rules.{rules}
 use Rattle.one_name.proofs.between.Goals as goal
 
 pub without-requires : goal.without-requires

@@ -1,5 +1,4 @@
 -- `one_name::case_above` meets its contract. Assumes nothing.
-use borrow.Author.Rules.{rules}
 use lib.IntN.{pos}
 use Rattle.slots.specs.Tuples.{row_at}
 use Rattle.name_renames.specs.declared.Case.TheVariants.{PutAbove, KeepAbove}

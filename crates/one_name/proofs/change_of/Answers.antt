@@ -10,7 +10,6 @@ use Rattle.name_renames.specs.Renaming.{lead}
 use Rattle.one_name.specs.declared.Change.{Change}
 use Rattle.one_name.specs.declared.Change.TheVariants.{Alone, Led}
 use Rattle.one_name.specs.Changes.{index_of, change_of}
-use borrow.Author.Rules.{rules}
 use Rattle.one_name.proofs.change_of.Goals as goal
 
 -- the tuple t that the code has made, of the position that it has read, in a change that is f of it

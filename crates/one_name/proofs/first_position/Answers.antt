@@ -2,7 +2,6 @@
 use mathlib.Core.Path.{◌∙◌}
 use native.Mathlib.Omega.{arith}
 use Rattle.one_name.proofs.CheckedLog.{logged, first_at}
-use borrow.Author.Rules.{rules}
 use Rattle.one_name.proofs.first_position.Goals as goal
 
 pub read_u16-requires : goal.read_u16-requires

@@ -12,26 +12,23 @@ use Rattle.slots.specs.Tuples.{tuple_at, tuple_size, row_at}
 use Rattle.slots.proofs.TuplesInBytes.{get_or_tuples_at}
 use borrow.Author.Rules.{rules}
 use Rattle.one_name.proofs.index_of.Goals as goal
-use Rattle.one_name.proofs.index_of.Goals.{After-read_tuple-t}
-
--- LOOK
--- the first tuple of the name is the one that was read
-first : (c : After-read_tuple-t) →
-    c.read_tuple-t.result.offset ≡ (get_or (row_at c.args.s.now c.args.c) 0 m).offset
-first c =
-    let s = c.args.s.now in
-    let x = c.args.c in
-    let z : x.at + tuple_size * 0 ≡ x.at = omega arith in
-    ap (λ (t : Tuple). t.offset) (c.read_tuple-t.ensures ∙ sym (get_or_tuples_at s x.at x.count 0 c.requires.1 ∙ ap (tuple_at s) z))
 
 pub natural-requires : goal.natural-requires
 natural-requires c =
-    let after-read-tuple : After-read_tuple-t = search rules in
+    let first : c.read_tuple-t.result.offset ≡ (get_or (row_at c.args.s.now c.args.c) 0 m).offset =
+      let s = c.args.s.now in
+    let x = c.args.c in
+    let z : x.at + tuple_size * 0 ≡ x.at = omega arith in
+    ap (λ (t : Tuple). t.offset) (c.read_tuple-t.ensures ∙ sym (get_or_tuples_at s x.at x.count 0 c.requires.1 ∙ ap (tuple_at s) z)) in
     let t = c.read_tuple-t.result in
-    ap non_neg (to_z-of_z w32 t.offset (search rules) ∙ first after-read-tuple) ∙ c.requires.2
+    ap non_neg (to_z-of_z w32 t.offset (search rules) ∙ first) ∙ c.requires.2
 
 pub returns : goal.returns
 returns c =
-    let after-read-tuple : After-read_tuple-t = search rules in
+    let first : c.read_tuple-t.result.offset ≡ (get_or (row_at c.args.s.now c.args.c) 0 m).offset =
+      let s = c.args.s.now in
+    let x = c.args.c in
+    let z : x.at + tuple_size * 0 ≡ x.at = omega arith in
+    ap (λ (t : Tuple). t.offset) (c.read_tuple-t.ensures ∙ sym (get_or_tuples_at s x.at x.count 0 c.requires.1 ∙ ap (tuple_at s) z)) in
     let t = c.read_tuple-t.result in
-    c.natural.ensures ∙ to_z-of_z w32 t.offset (search rules) ∙ first after-read-tuple
+    c.natural.ensures ∙ to_z-of_z w32 t.offset (search rules) ∙ first

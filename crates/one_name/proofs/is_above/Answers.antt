@@ -4,7 +4,6 @@ use mathlib.Core.List.{[], ◌∷◌}
 use Rattle.names.specs.Ordering.{is_less}
 use Rattle.slots.specs.Tuples.{row_at}
 use Rattle.names.proofs.TestedOrder.{turned_less, turned_same, turned_more}
-use borrow.Author.Rules.{rules}
 use Rattle.one_name.proofs.is_above.Goals as goal
 
 pub returns-in-Less : goal.returns-in-Less

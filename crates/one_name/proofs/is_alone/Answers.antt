@@ -10,7 +10,6 @@ use Rattle.name_renames.specs.Alone.{is_above}
 use Rattle.name_renames.proofs.Alone.{alone_below, alone_above, alone_within_lem}
 use Rattle.one_name.proofs.CheckedLog.{logged}
 use Rattle.one_name.proofs.TestedSides.{last_is, under_first, from_first, over_last, to_last, low_is, high_is}
-use borrow.Author.Rules.{rules}
 use Rattle.one_name.proofs.is_alone.Goals as goal
 
 pub returns-then-is_below : goal.returns-then-is_below

@@ -1,7 +1,6 @@
 -- `one_name::is_below` meets its contract. Assumes nothing.
 use mathlib.Core.Path.{◌∙◌, ap}
 use Rattle.names.specs.Ordering.{is_less}
-use borrow.Author.Rules.{rules}
 use Rattle.one_name.proofs.is_below.Goals as goal
 
 pub returns : goal.returns

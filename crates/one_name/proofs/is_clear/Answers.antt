@@ -5,7 +5,6 @@ use Rattle.slots.specs.Tuples.{row_at}
 use Rattle.pages.specs.Pages.{names_of}
 use Rattle.one_name.specs.Backs.{shape_of}
 use Rattle.one_name.specs.Stems.{is_own}
-use borrow.Author.Rules.{rules}
 use Rattle.one_name.proofs.is_clear.Goals as goal
 
 pub returns-then-is_unmarked : goal.returns-then-is_unmarked

@@ -6,7 +6,6 @@ use Rattle.names.specs.Ordering.{is_less}
 use Rattle.names.proofs.TestedOrder.{turned_less, turned_same, turned_more}
 use Rattle.slots.specs.Tuples.{row_at}
 use Rattle.pages.specs.Pages.{names_of}
-use borrow.Author.Rules.{rules}
 use Rattle.one_name.proofs.is_over.Goals as goal
 
 pub returns-in-Less : goal.returns-in-Less

@@ -1,18 +1,17 @@
 use mathlib.Core.Path.{◌≡◌, refl, ◌∙◌, sym, ap}
 use mathlib.Core.Bool.{Bool, not, ◌&&◌}
-use Prim.Native.Nat.{ℕ, ◌+◌, ◌-◌, ◌*◌, ◌≤◌, ◌<◌}
+use Prim.Native.Nat.{ℕ, ◌+◌, ◌*◌, ◌≤◌, ◌<◌}
 use native.Mathlib.Omega.{arith}
 use lib.ListN.{length, drop}
 use Rattle.names.specs.declared.Tuple.{Tuple}
-use Rattle.names.specs.Names.{limit, marker, m}
+use Rattle.names.specs.Names.{marker, m}
 use Rattle.names.proofs.Validity.{name_valid}
 use Rattle.numbers.specs.Bytes.{Bytes}
 use Rattle.numbers.proofs.Every.{every_at}
 use Rattle.slots.specs.Tuples.{tuple_at, tuples_at, row_at, tuple_size}
 use Rattle.slots.proofs.TuplesInBytes.{length_tuples_at, get_or_tuples_at}
-use Rattle.one_name.specs.Markers.{unmarked, unmarked_from}
+use Rattle.one_name.specs.Markers.{unmarked}
 use Rattle.one_name.proofs.Unmarked.{last_free}
-use borrow.Author.Rules.{rules}
 use Rattle.one_name.proofs.is_unmarked.Goals as goal
 
 -- what the test of tuple i says of the tuples from there on

@@ -13,7 +13,6 @@ use Rattle.slots.specs.Slots.{slot_size}
 use Rattle.pages.specs.Pages.{names_of}
 use Rattle.pages.proofs.SlotBySlot.{length_names}
 use Rattle.name_renames.specs.Alone.{is_below}
-use borrow.Author.Rules.{rules}
 use Rattle.one_name.proofs.is_within.Goals as goal
 
 pub returns-in-Less : goal.returns-in-Less

@@ -3,7 +3,6 @@ use mathlib.Core.Path.{refl, ◌∙◌, sym, ap}
 use Prim.Native.Nat.{ℕ, ◌+◌}
 use lib.ListN.{length}
 use Rattle.slots.proofs.TuplesInBytes.{length_tuples_at}
-use borrow.Author.Rules.{rules}
 use Rattle.one_name.proofs.logged_stem.Goals as goal
 
 pub returns : goal.returns

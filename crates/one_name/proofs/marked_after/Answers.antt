@@ -8,7 +8,6 @@ use lib.ListN.{length, get_or}
 use Rattle.names.specs.Names.{m, marker}
 use Rattle.slots.specs.Tuples.{row_at}
 use Rattle.slots.proofs.TuplesInBytes.{length_tuples_at, get_or_tuples_at}
-use borrow.Author.Rules.{rules}
 use Rattle.one_name.proofs.marked_after.Goals as goal
 
 pub returns-then-x-n : goal.returns-then-x-n

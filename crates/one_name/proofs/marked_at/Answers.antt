@@ -3,7 +3,6 @@ use mathlib.Core.Path.{◌∙◌, sym, ap, subst}
 use mathlib.Core.Bool.{Bool, cond}
 use Rattle.slots.specs.Tuples.{row_at, Lies}
 use Rattle.one_name.specs.Stems.{marked_at}
-use borrow.Author.Rules.{rules}
 use Rattle.one_name.proofs.marked_at.Goals as goal
 
 pub marked_after-requires : goal.marked_after-requires

@@ -7,7 +7,6 @@ use Rattle.slots.specs.Tuples.{row_at}
 use Rattle.pages.specs.Pages.{names_of}
 use Rattle.name_renames.proofs.ByTest.{chosen}
 use Rattle.one_name.specs.declared.Back.TheVariants.{Own, Behind}
-use borrow.Author.Rules.{rules}
 use Rattle.one_name.proofs.over.Goals as goal
 
 pub against-requires : goal.against-requires

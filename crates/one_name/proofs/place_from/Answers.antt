@@ -1,11 +1,10 @@
 use mathlib.Core.Path.{◌≡◌, refl, ◌∙◌, sym, ap}
 use mathlib.Core.List.{[]}
-use Prim.Native.Nat.{ℕ, ◌-◌, ◌/◌, ◌<◌, ◌≤◌}
+use Prim.Native.Nat.{◌/◌, ◌<◌}
 use native.Mathlib.Omega.{arith}
-use borrow.Author.Rules.{rules}
 use lib.ListN.{length, get_or}
 use Rattle.names.specs.declared.Order.{Order}
-use Rattle.names.specs.Ordering.{Row, compare_rows, ◌<ⁿ◌}
+use Rattle.names.specs.Ordering.{Row, compare_rows}
 use Rattle.slots.specs.Tuples.{row_at}
 use Rattle.names.proofs.Laws.{rising_Rising, less_row, same_row, more_row}
 use Rattle.slots.specs.Slots.{slot_size}

@@ -1,19 +1,12 @@
 -- `one_name::place_from` meets its contract. Assumes nothing.
-use mathlib.Core.Path.{◌≡◌, refl, ◌∙◌, sym, ap}
+use mathlib.Core.Path.{◌≡◌}
 use mathlib.Core.List.{[]}
 use Prim.Native.Nat.{ℕ, ◌-◌, ◌/◌, ◌<◌, ◌≤◌}
-use native.Mathlib.Omega.{arith}
-use borrow.Author.Rules.{rules}
 use lib.ListN.{length, get_or}
-use Rattle.names.specs.declared.Order.{Order}
-use Rattle.names.specs.Ordering.{Row, compare_rows, ◌<ⁿ◌}
+use Rattle.names.specs.Ordering.{◌<ⁿ◌}
 use Rattle.slots.specs.Tuples.{row_at}
-use Rattle.names.proofs.Laws.{rising_Rising, less_row, same_row, more_row}
 use Rattle.slots.specs.Slots.{slot_size}
 use Rattle.pages.specs.Pages.{names_of}
-use Rattle.pages.proofs.SlotBySlot.{length_names}
-use Rattle.pages.proofs.FindByHalving.{found, missed, to_left, to_right}
-use Rattle.one_name.proofs.PlaceInLog.{below_before, below_within}
 use Rattle.one_name.proofs.place_from.Given as goal
 
 abbrev pub invariant-loop-k : goal.invariant-loop-k

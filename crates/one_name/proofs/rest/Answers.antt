@@ -1,6 +1,5 @@
 -- `one_name::rest` meets its contract. Assumes nothing.
 use mathlib.Core.Path.{◌∙◌}
-use borrow.Author.Rules.{rules}
 use Rattle.one_name.proofs.rest.Goals as goal
 
 pub read_row-requires : goal.read_row-requires

@@ -1,17 +1,11 @@
 -- `one_name::shallowest` meets its contract. Assumes nothing.
-use mathlib.Core.Path.{◌≡◌, refl, ◌∙◌, sym, ap}
-use mathlib.Core.List.{[]}
-use Prim.Native.Nat.{ℕ, ◌+◌, ◌-◌, ◌/◌, ◌<◌, ◌≤◌, min}
-use native.Mathlib.Omega.{arith}
-use lib.ListN.{length, drop, get_or}
+use mathlib.Core.Path.{◌≡◌}
+use Prim.Native.Nat.{◌-◌, ◌/◌, ◌≤◌, min}
+use lib.ListN.{length, drop}
 use Rattle.names.specs.Names.{limit}
 use Rattle.slots.specs.Slots.{slot_size}
-use Rattle.slots.proofs.TuplesInBytes.{length_tuples_at}
 use Rattle.pages.specs.Pages.{names_of}
-use Rattle.pages.proofs.SlotBySlot.{length_names}
 use Rattle.one_name.specs.Backs.{shallowest_of}
-use Rattle.one_name.proofs.Depths.{shallowest_all, shallowest_on, shallowest_end}
-use borrow.Author.Rules.{rules}
 use Rattle.one_name.proofs.shallowest.Given as goal
 
 abbrev pub invariant-loop-k : goal.invariant-loop-k

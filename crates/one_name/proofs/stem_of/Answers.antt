@@ -11,6 +11,8 @@ use Rattle.one_name.specs.declared.Stem.{Stem}
 use Rattle.one_name.specs.Backs.{Stands}
 use Rattle.one_name.proofs.StemsInBytes.{Tells, in_log, behind_depth, ahead_depth}
 use borrow.Author.Rules.{rules}
+use Rattle.one_name.specs.Backs.{shaped}
+use Rattle.one_name.specs.Stems.{stem, is_behind, is_ahead, row_of_stem, StemLies}
 use Rattle.one_name.proofs.stem_of.Goals as goal
 
 pub without-row-requires : goal.without-row-requires
@@ -39,8 +41,9 @@ returns-in-Restored c =
     let x = c.logged_stem.result in
     let known = c.logged_stem.ensures in
     let deep : x.depth ≡ length (get_or (names_of log) c.in-Restored.k []) = omega (arith, known.5) in
-    subst (Tells s log (row_at s a.c) x) (sym c.in-Restored.is) ((known.0, known.1, deep), in_log s log x known.2 known.3 known.4)
-    -- LOOK: clauses behind_value stem_lies
+    let both : ((_ ≡ is_behind c.args.back) × (_ ≡ is_ahead c.args.back) × (_ ≡ length (shaped (row_at c.args.c.args.s.now c.args.c) (names_of c.args.c.args.log.now) c.args.back))) × (StemLies c.args.c.args.s.now c.args.c.args.log.now _ × (row_of_stem c.args.c.args.s.now c.args.c.args.log.now _ ≡ stem (row_at c.args.c.args.s.now c.args.c) (names_of c.args.c.args.log.now) c.args.back)) =
+      subst (Tells s log (row_at s a.c) x) (sym c.in-Restored.is) ((known.0, known.1, deep), in_log s log x known.2 known.3 known.4)
+    in record { behind_value = both.0; stem_lies = both.1; }
 
 pub returns-in-Own : goal.returns-in-Own
 returns-in-Own c =
@@ -51,8 +54,9 @@ returns-in-Own c =
     let known = c.without-row.ensures in
     let deep = sym (length_tuples_at s row.at row.count) ∙ ap length known.1 in
     let x : Stem = record { behind = false; ahead = false; logged = false; row = row; depth = row.count } in
-    subst (Tells s log (row_at s a.c) x) (sym c.in-Own.is) ((refl, refl, deep), (known.0, known.1))
-    -- LOOK: clauses behind_value stem_lies
+    let both : ((_ ≡ is_behind c.args.back) × (_ ≡ is_ahead c.args.back) × (_ ≡ length (shaped (row_at c.args.c.args.s.now c.args.c) (names_of c.args.c.args.log.now) c.args.back))) × (StemLies c.args.c.args.s.now c.args.c.args.log.now _ × (row_of_stem c.args.c.args.s.now c.args.c.args.log.now _ ≡ stem (row_at c.args.c.args.s.now c.args.c) (names_of c.args.c.args.log.now) c.args.back)) =
+      subst (Tells s log (row_at s a.c) x) (sym c.in-Own.is) ((refl, refl, deep), (known.0, known.1))
+    in record { behind_value = both.0; stem_lies = both.1; }
 
 pub returns-in-Behind : goal.returns-in-Behind
 returns-in-Behind c =
@@ -65,8 +69,9 @@ returns-in-Behind c =
     let x = c.logged_stem-in-Behind.result in
     let known = c.logged_stem-in-Behind.ensures in
     let deep = known.5 ∙ behind_depth (get_or (names_of log) found.0.0 []) y a.c.count found.0.1.0 (length_tuples_at s a.c.at a.c.count) h.1.0 in
-    subst (Tells s log y x) (sym found.1) ((known.0, known.1, deep), in_log s log x known.2 known.3 known.4)
-    -- LOOK: clauses behind_value stem_lies
+    let both : ((_ ≡ is_behind c.args.back) × (_ ≡ is_ahead c.args.back) × (_ ≡ length (shaped (row_at c.args.c.args.s.now c.args.c) (names_of c.args.c.args.log.now) c.args.back))) × (StemLies c.args.c.args.s.now c.args.c.args.log.now _ × (row_of_stem c.args.c.args.s.now c.args.c.args.log.now _ ≡ stem (row_at c.args.c.args.s.now c.args.c) (names_of c.args.c.args.log.now) c.args.back)) =
+      subst (Tells s log y x) (sym found.1) ((known.0, known.1, deep), in_log s log x known.2 known.3 known.4)
+    in record { behind_value = both.0; stem_lies = both.1; }
 
 pub returns-in-Ahead : goal.returns-in-Ahead
 returns-in-Ahead c =
@@ -79,5 +84,6 @@ returns-in-Ahead c =
     let x = c.logged_stem-in-Ahead.result in
     let known = c.logged_stem-in-Ahead.ensures in
     let deep = known.5 ∙ ahead_depth (get_or (names_of log) found.0.0 []) y a.c.count found.0.1.0 (length_tuples_at s a.c.at a.c.count) h.1.0 in
-    subst (Tells s log y x) (sym found.1) ((known.0, known.1, deep), in_log s log x known.2 known.3 known.4)
-    -- LOOK: clauses behind_value stem_lies
+    let both : ((_ ≡ is_behind c.args.back) × (_ ≡ is_ahead c.args.back) × (_ ≡ length (shaped (row_at c.args.c.args.s.now c.args.c) (names_of c.args.c.args.log.now) c.args.back))) × (StemLies c.args.c.args.s.now c.args.c.args.log.now _ × (row_of_stem c.args.c.args.s.now c.args.c.args.log.now _ ≡ stem (row_at c.args.c.args.s.now c.args.c) (names_of c.args.c.args.log.now) c.args.back)) =
+      subst (Tells s log y x) (sym found.1) ((known.0, known.1, deep), in_log s log x known.2 known.3 known.4)
+    in record { behind_value = both.0; stem_lies = both.1; }

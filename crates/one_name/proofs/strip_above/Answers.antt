@@ -1,12 +1,10 @@
 -- `one_name::strip_above` meets its contract. Assumes nothing.
 use mathlib.Core.Path.{◌∙◌, sym}
-use borrow.Author.Tests.{not-true, not-false}
 use Prim.Native.Nat.{◌≤◌}
 use native.Mathlib.Omega.{arith}
 use Rattle.slots.specs.Tuples.{row_at}
 use Rattle.slots.proofs.TuplesInBytes.{length_tuples_at}
 use Rattle.name_renames.proofs.ByTest.{begins_long, begins_as, low_as, above_kept, above_high, above_cut}
-use borrow.Author.Rules.{rules}
 use Rattle.one_name.proofs.strip_above.Goals as goal
 
 pub returns-then-not-begins : goal.returns-then-not-begins

@@ -1,10 +1,9 @@
 -- `one_name::walk` meets its contract. Assumes nothing.
-use mathlib.Core.Path.{◌∙◌, sym, ap}
+use mathlib.Core.Path.{◌∙◌, ap}
 use Rattle.slots.specs.Tuples.{row_at}
 use Rattle.pages.specs.Pages.{names_of}
 use Rattle.one_name.proofs.CheckedLog.{logged, case_index}
 use Rattle.one_name.proofs.PlaceInLog.{index, index_is}
-use borrow.Author.Rules.{rules}
 use Rattle.one_name.proofs.walk.Goals as goal
 
 pub place_from-place-requires : goal.place_from-place-requires

@@ -2,7 +2,6 @@
 use mathlib.Core.Path.{refl}
 use native.Mathlib.Omega.{arith}
 use Rattle.slots.proofs.TuplesInBytes.{drop_tuples_at}
-use borrow.Author.Rules.{rules}
 use Rattle.one_name.proofs.without.Goals as goal
 
 pub returns : goal.returns

@@ -1,0 +1,7 @@
+-- `epochs::answer` meets its contract. Assumes nothing.
+use mathlib.Core.Path.{sym, ap}
+use Rattle.epochs.specs.Calls.{answer_of}
+use Rattle.epochs.proofs.answer.Goals as goal
+
+pub returns-in-Refused : goal.returns-in-Refused
+returns-in-Refused c =    ap answer_of (sym c.in-Refused.is)

@@ -1,0 +1,19 @@
+-- `epochs::target` meets its contract. Assumes nothing.
+use mathlib.Core.Path.{◌≡◌, refl, ap, ◌∙◌}
+use Prim.Native.Nat.{ℕ, ◌-◌, ◌/◌, ◌<◌, ◌≤◌}
+use native.Mathlib.Omega.{arith}
+use borrow.Author.Rules.{rules}
+use lib.ListN.{length, take, length-take}
+use Rattle.epoch_tree.specs.Tables.{entry_size, entries_of}
+use Rattle.epoch_tree.specs.Tree.{greater, greatest_to}
+use Rattle.epoch_tree.proofs.OrderAndTarget.{greatest_in}
+use Rattle.epoch_tree.proofs.TableBytes.{checked, length_entries}
+use Rattle.epochs.proofs.LoopTurns.{greatest_turn}
+use Rattle.epochs.proofs.target.Given as goal
+
+abbrev pub invariant-loop-k : goal.invariant-loop-k
+invariant-loop-k l =
+    (l.n ≡ length (take l.size l.tree) / entry_size) × (1 ≤ l.k) × (l.k ≤ l.n) × (l.best ≡ greatest_to (entries_of (take l.size l.tree)) (l.k - 1))
+
+abbrev pub decreases-loop-k : goal.decreases-loop-k
+decreases-loop-k l = l.n - l.k
