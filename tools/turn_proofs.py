@@ -92,9 +92,12 @@ def clause_type(full):
     for label, text in ens:
         text = re.sub(r"(?<![\w.'-])result(?:\.[\w.]+)?(?![\w'-])", "_", text)
         text = re.sub(r"(?<![\w.'-])\w+\.new(?![\w'-])", "_", text)
-        for p in params:
-            text = re.sub(r"(?<![\w.'-])" + p + r"\.(?:old|now)(?![\w'-])", f"c.args.{p}.now", text)
-            text = re.sub(r"(?<![\w.'-])" + p + r"(?![\w'-])(?! =)", f"c.args.{p}", text)
+        def one(m):
+            if m[1] not in params:
+                return m[0]
+            return f"c.args.{m[1]}" + (".now" if m[2] else "")
+
+        text = re.sub(r"(?<![\w.'-])(\w+)(\.(?:old|now)(?![\w'-]))?(?![\w'-])(?! =)", one, text)
         out.append(text)
     return out
 
@@ -235,8 +238,8 @@ class Turn:
                 if not rest and len(own) > 1:
                     return "(" + ", ".join("c.requires." + l for l in own) + ")"
                 return "c.requires" + rest
-            if step in ("lifetimes", "ranges", "well_formed", "type_inv", "good", "fits"):
-                return "c." + {"good": "well_formed", "fits": "ranges"}.get(step, step) + rest
+            if step in ("lifetimes", "ranges", "well_formed", "well-formed", "type_inv", "good", "fits"):
+                return "c." + {"good": "well_formed", "well-formed": "well_formed", "fits": "ranges"}.get(step, step) + rest
             key = norm(step)
             new = self.steps.get(key)
             for (old, by), arm in sorted(self.arms.items(), key=lambda it: -len(it[0][1])):
@@ -266,6 +269,8 @@ class Turn:
                     slices = self.slices.get(callee, [])
                     if int(k[1]) < len(slices):
                         rest = ".auto." + slices[int(k[1])] + rest[k.end():]
+                if re.match(r"\.kept(?![.\w])", rest) and len(self.slices.get(callee, [])) == 1:
+                    rest = ".auto." + self.slices[callee][0] + rest[5:]
                 k = re.match(r"\.ensures\.(\d+)", rest)
                 if k and len(lab) > 1:
                     rest = ".ensures." + lab[int(k[1])] + rest[k.end():]
@@ -275,6 +280,12 @@ class Turn:
             if ident in bound:
                 bound.add(alias)
                 text = re.sub(r"[ \t]*let " + re.escape(alias) + " = " + re.escape(ident) + r" in[ \n]?", "    ", text)
+        for alias, ident, step in re.findall(r"let ([\w'-]+) = ([\w'-]+)\.([\w'-]+)\.given in", text):
+            known = {by[len("given."):]: arm for (old, by), arm in self.arms.items() if old == norm(step) and by.startswith("given.")}
+            if ident in bound and known:
+                text = re.sub(r"[ \t]*let " + re.escape(alias) + r" = [\w'-]+\.[\w'-]+\.given in\n?", "", text)
+                for by in sorted(known, key=len, reverse=True):
+                    text = re.sub(r"(?<![\w.'-])" + re.escape(alias) + r"\." + re.escape(by) + r"(?![\w.])", "c." + known[by], text)
         text = re.sub(r"(?<![\w.'-])([\w'₀-₉-]+)\.([\w'-]+)((?:\.[\w'₀-₉-]+)*)", one, text)
         own = self.labels.get(self.full, ([], []))[0]
         if len(own) > 1:

@@ -8,13 +8,13 @@ use Rattle.names.specs.declared.Name.{Name}
 use Rattle.names.specs.declared.Tuple.{Tuple}
 use Rattle.names.specs.Ordering.{Row}
 use Rattle.names.specs.Names.{row_of}
-use Rattle.names.specs.contracts.Tuple.{the_type, the_field}
+use Rattle.names.specs.contracts.Tuple.{the_row}
 use Rattle.numbers.specs.Bytes.{Bytes, put}
 use Rattle.numbers.proofs.TwosComplement.{is_word}
 use Rattle.slots.specs.Tuples.{tuples_at, row_bytes}
 use Rattle.slots.proofs.RoundTrip.{Words, none, more, row_back}
 
-pub held_words : (xs : List Tuple) (us : List Val) → shadow (each the_field.row.Denot the_field.row.own_val (map the_type.to xs) us) → Words xs
+pub held_words : (xs : List Tuple) (us : List Val) → shadow (each the_row.Denot the_row.own_val xs us) → Words xs
 held_words [] [] s = none
 held_words [] (u ∷ us) s = absurd s
 held_words (x ∷ xs) [] s = absurd s

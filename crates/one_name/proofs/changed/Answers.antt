@@ -7,7 +7,6 @@ use Rattle.name_values.proofs.JoinedRows.{row_of_lem}
 use Rattle.name_values.proofs.GivenRows.{gives, joins}
 use Rattle.one_name.specs.declared.Change.{Change}
 use Rattle.one_name.specs.Changes.{changed_by}
-use borrow.Author.Rules.{rules}
 use Rattle.one_name.proofs.changed.Goals as goal
 
 -- the change is d

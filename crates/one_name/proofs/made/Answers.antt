@@ -9,7 +9,6 @@ use Rattle.pages.specs.Pages.{names_of}
 use Rattle.name_values.proofs.GivenRows.{gives}
 use Rattle.one_name.specs.Backs.{shaped, Stands}
 use Rattle.one_name.proofs.CheckedLog.{log_named}
-use borrow.Author.Rules.{rules}
 use Rattle.one_name.proofs.made.Goals as goal
 
 pub rest-requires : goal.rest-requires

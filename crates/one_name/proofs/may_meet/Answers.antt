@@ -3,7 +3,6 @@ use mathlib.Core.Path.{◌∙◌, sym, ap}
 use mathlib.Core.Bool.{Bool, ◌&&◌, ◌||◌}
 use lib.ListN.{length}
 use Rattle.one_name.specs.Stems.{marked_at, row_of_stem}
-use borrow.Author.Rules.{rules}
 use Rattle.one_name.proofs.may_meet.Goals as goal
 
 pub returns-then-reaches_up : goal.returns-then-reaches_up

@@ -5,7 +5,6 @@ use borrow.Author.Tests.{not-true, not-false}
 use lib.ListN.{length}
 use Rattle.slots.proofs.TuplesInBytes.{length_tuples_at}
 use Rattle.one_name.specs.Stems.{marked_at, home, row_of_stem}
-use borrow.Author.Rules.{rules}
 use Rattle.one_name.proofs.reaches_up.Goals as goal
 
 pub returns-then-not-x : goal.returns-then-not-x
@@ -13,7 +12,7 @@ returns-then-not-x c =
     let a = c.args in
     let s = a.s.now in
     let log = a.log.now in
-    sym (ap (λ (b : Bool). b && marked_at (row_of_stem s log a.y) (length (row_of_stem s log a.x))) c.if-not-x.true)
+    sym (ap (λ (b : Bool). b && marked_at (row_of_stem s log a.y) (length (row_of_stem s log a.x))) (not-true c.args.x.behind c.if-not-x.true))
 
 pub returns : goal.returns
 returns c =
@@ -22,4 +21,4 @@ returns c =
     let log = a.log.now in
     let x = a.x in
     c.marked_at.ensures
-    ∙ sym (λ i. c.if-not-x.false i && marked_at (row_of_stem s log a.y) (length_tuples_at (home s log x) x.row.at x.row.count i))
+    ∙ sym (λ i. not-false c.args.x.behind c.if-not-x.false i && marked_at (row_of_stem s log a.y) (length_tuples_at (home s log x) x.row.at x.row.count i))

@@ -4,7 +4,6 @@ use Rattle.names.specs.Names.{row_of}
 use Rattle.pages.specs.Pages.{names_of}
 use Rattle.name_values.proofs.GivenRows.{gives}
 use Rattle.one_name.proofs.RenamedByChange.{renamed}
-use borrow.Author.Rules.{rules}
 use Rattle.one_name.proofs.rename_name.Goals as goal
 
 pub returns : goal.returns

@@ -10,9 +10,6 @@ use Rattle.pages.specs.Pages.{names_of}
 use Rattle.one_name.specs.declared.Stem.{Stem}
 use Rattle.one_name.specs.Backs.{Stands}
 use Rattle.one_name.proofs.StemsInBytes.{Tells, in_log, behind_depth, ahead_depth}
-use borrow.Author.Rules.{rules}
-use Rattle.one_name.specs.Backs.{shaped}
-use Rattle.one_name.specs.Stems.{stem, is_behind, is_ahead, row_of_stem, StemLies}
 use Rattle.one_name.proofs.stem_of.Goals as goal
 
 pub without-row-requires : goal.without-row-requires
@@ -41,7 +38,7 @@ returns-in-Restored c =
     let x = c.logged_stem.result in
     let known = c.logged_stem.ensures in
     let deep : x.depth ≡ length (get_or (names_of log) c.in-Restored.k []) = omega (arith, known.5) in
-    let both : ((_ ≡ is_behind c.args.back) × (_ ≡ is_ahead c.args.back) × (_ ≡ length (shaped (row_at c.args.c.args.s.now c.args.c) (names_of c.args.c.args.log.now) c.args.back))) × (StemLies c.args.c.args.s.now c.args.c.args.log.now _ × (row_of_stem c.args.c.args.s.now c.args.c.args.log.now _ ≡ stem (row_at c.args.c.args.s.now c.args.c) (names_of c.args.c.args.log.now) c.args.back)) =
+    let both : Tells s log (row_at s a.c) x c.args.back =
       subst (Tells s log (row_at s a.c) x) (sym c.in-Restored.is) ((known.0, known.1, deep), in_log s log x known.2 known.3 known.4)
     in record { behind_value = both.0; stem_lies = both.1; }
 
@@ -54,7 +51,7 @@ returns-in-Own c =
     let known = c.without-row.ensures in
     let deep = sym (length_tuples_at s row.at row.count) ∙ ap length known.1 in
     let x : Stem = record { behind = false; ahead = false; logged = false; row = row; depth = row.count } in
-    let both : ((_ ≡ is_behind c.args.back) × (_ ≡ is_ahead c.args.back) × (_ ≡ length (shaped (row_at c.args.c.args.s.now c.args.c) (names_of c.args.c.args.log.now) c.args.back))) × (StemLies c.args.c.args.s.now c.args.c.args.log.now _ × (row_of_stem c.args.c.args.s.now c.args.c.args.log.now _ ≡ stem (row_at c.args.c.args.s.now c.args.c) (names_of c.args.c.args.log.now) c.args.back)) =
+    let both : Tells s log (row_at s a.c) x c.args.back =
       subst (Tells s log (row_at s a.c) x) (sym c.in-Own.is) ((refl, refl, deep), (known.0, known.1))
     in record { behind_value = both.0; stem_lies = both.1; }
 
@@ -64,13 +61,12 @@ returns-in-Behind c =
     let s = a.s.now in
     let log = a.log.now in
     let y = row_at s a.c in
-    let found = c.back-in-Behind-1.given in
-    let h = subst (Stands y (names_of log)) found.1 c.requires.1 in
+    let h = subst (Stands y (names_of log)) c.in-Behind.is c.requires.1 in
     let x = c.logged_stem-in-Behind.result in
     let known = c.logged_stem-in-Behind.ensures in
-    let deep = known.5 ∙ behind_depth (get_or (names_of log) found.0.0 []) y a.c.count found.0.1.0 (length_tuples_at s a.c.at a.c.count) h.1.0 in
-    let both : ((_ ≡ is_behind c.args.back) × (_ ≡ is_ahead c.args.back) × (_ ≡ length (shaped (row_at c.args.c.args.s.now c.args.c) (names_of c.args.c.args.log.now) c.args.back))) × (StemLies c.args.c.args.s.now c.args.c.args.log.now _ × (row_of_stem c.args.c.args.s.now c.args.c.args.log.now _ ≡ stem (row_at c.args.c.args.s.now c.args.c) (names_of c.args.c.args.log.now) c.args.back)) =
-      subst (Tells s log y x) (sym found.1) ((known.0, known.1, deep), in_log s log x known.2 known.3 known.4)
+    let deep = known.5 ∙ behind_depth (get_or (names_of log) c.in-Behind.k []) y a.c.count c.in-Behind.cut (length_tuples_at s a.c.at a.c.count) h.1.0 in
+    let both : Tells s log (row_at s a.c) x c.args.back =
+      subst (Tells s log y x) (sym c.in-Behind.is) ((known.0, known.1, deep), in_log s log x known.2 known.3 known.4)
     in record { behind_value = both.0; stem_lies = both.1; }
 
 pub returns-in-Ahead : goal.returns-in-Ahead
@@ -79,11 +75,10 @@ returns-in-Ahead c =
     let s = a.s.now in
     let log = a.log.now in
     let y = row_at s a.c in
-    let found = c.back-in-Ahead-1.given in
-    let h = subst (Stands y (names_of log)) found.1 c.requires.1 in
+    let h = subst (Stands y (names_of log)) c.in-Ahead.is c.requires.1 in
     let x = c.logged_stem-in-Ahead.result in
     let known = c.logged_stem-in-Ahead.ensures in
-    let deep = known.5 ∙ ahead_depth (get_or (names_of log) found.0.0 []) y a.c.count found.0.1.0 (length_tuples_at s a.c.at a.c.count) h.1.0 in
-    let both : ((_ ≡ is_behind c.args.back) × (_ ≡ is_ahead c.args.back) × (_ ≡ length (shaped (row_at c.args.c.args.s.now c.args.c) (names_of c.args.c.args.log.now) c.args.back))) × (StemLies c.args.c.args.s.now c.args.c.args.log.now _ × (row_of_stem c.args.c.args.s.now c.args.c.args.log.now _ ≡ stem (row_at c.args.c.args.s.now c.args.c) (names_of c.args.c.args.log.now) c.args.back)) =
-      subst (Tells s log y x) (sym found.1) ((known.0, known.1, deep), in_log s log x known.2 known.3 known.4)
+    let deep = known.5 ∙ ahead_depth (get_or (names_of log) c.in-Ahead.k []) y a.c.count c.in-Ahead.cut (length_tuples_at s a.c.at a.c.count) h.1.0 in
+    let both : Tells s log (row_at s a.c) x c.args.back =
+      subst (Tells s log y x) (sym c.in-Ahead.is) ((known.0, known.1, deep), in_log s log x known.2 known.3 known.4)
     in record { behind_value = both.0; stem_lies = both.1; }

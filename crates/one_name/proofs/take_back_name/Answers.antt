@@ -7,7 +7,6 @@ use Rattle.name_renames.specs.Renaming.{take_back}
 use Rattle.one_name.specs.Backs.{shaped, Stands}
 use Rattle.one_name.proofs.CheckedLog.{logged}
 use Rattle.one_name.proofs.Shapes.{shape_means}
-use borrow.Author.Rules.{rules}
 use Rattle.one_name.proofs.take_back_name.Goals as goal
 
 pub made-requires : goal.made-requires
