@@ -8,7 +8,7 @@ use native.Mathlib.Omega.{arith}
 use lib.ListN.{length, take, drop, get_or, replicate, length-append, length-take, length-drop, replicate-append-replicate}
 use lib.Seq.{take-add, take-take, drop_at, drop-drop}
 use Rattle.names.specs.Ordering.{Row}
-use Rattle.names.specs.Names.{limit, m}
+use Rattle.names.specs.Names.{limit}
 use Rattle.numbers.specs.Bytes.{Bytes, Octets, all_zero, bytes32, put}
 use Rattle.numbers.proofs.Lists.{next_to}
 use Rattle.numbers.proofs.Octets.{octets_take, octets_drop}

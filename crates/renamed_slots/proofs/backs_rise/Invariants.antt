@@ -1,0 +1,24 @@
+-- `renamed_slots::backs_rise` meets its contract. Assumes nothing.
+use mathlib.Core.Path.{◌≡◌}
+use Prim.Native.Nat.{◌-◌}
+use lib.ListN.{length}
+use Rattle.names.specs.Ordering.{Row, is_less, compare_rows}
+use Rattle.names.proofs.CompareTuples.{left}
+use Rattle.numbers.specs.Bytes.{Bytes}
+use Rattle.slots.specs.Slots.{name_of}
+use Rattle.pages.specs.Pages.{names_of}
+use Rattle.one_name.specs.declared.Back.{Back}
+use Rattle.one_name.specs.Backs.{shaped}
+use Rattle.renamed_slots.proofs.backs_rise.Given as goal
+
+-- the name that the slot s is taken back to
+abbrev pub back_of : Bytes → Bytes → Back → Row
+back_of s log b = shaped (name_of s) (names_of log) b
+
+abbrev pub invariant-loop-i : goal.invariant-loop-i
+invariant-loop-i l =
+    (l.n ≡ length (back_of l.first l.log l.a)) × (l.m ≡ length (back_of l.second l.log l.b)) ×
+    (is_less (left (back_of l.first l.log l.a) (back_of l.second l.log l.b) l.n l.m l.i) ≡ is_less (compare_rows (back_of l.first l.log l.a) (back_of l.second l.log l.b)))
+
+abbrev pub decreases-loop-i : goal.decreases-loop-i
+decreases-loop-i l = l.n - l.i
