@@ -426,10 +426,14 @@ def turn(crate, name, data, labels):
     old = [norm(n[2]) for n in needs]
     new = [norm(o) for o, _ in data["needs"]]
     pairs = {}
+    for k, label in enumerate(old):
+        if old.count(label) == 1 and new.count(label) == 1:
+            pairs[k] = data["needs"][new.index(label)][1]
     for tag, a0, a1, b0, b1 in difflib.SequenceMatcher(None, old, new, autojunk=False).get_opcodes():
         if tag == "equal" or (tag == "replace" and a1 - a0 == b1 - b0):
             for k in range(a1 - a0):
-                pairs[a0 + k] = data["needs"][b0 + k][1]
+                if data["needs"][b0 + k][1] not in pairs.values():
+                    pairs.setdefault(a0 + k, data["needs"][b0 + k][1])
     ans_out = []
     helpers = {}
     left = []
