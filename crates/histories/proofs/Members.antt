@@ -31,7 +31,7 @@ pub all_in : {A : Type 0} {P : A → Type 0} (l : List A) → ((x : A) → In x 
 all_in [] f = nil
 all_in (x ∷ l) f = cons (f x (In.head refl)) (all_in l (λ y m. f y (In.tail m)))
 
-pub place : {A : Type 0} {l : List A} {x : A} (d : A) → In x l → (k : ℕ) × (k < length l) × (get_or l k d ≡ x)
+pub place : {A : Type 0} {x : A} {l : List A} (d : A) → In x l → (k : ℕ) × (k < length l) × (get_or l k d ≡ x)
 place d (In.head e) = (0, omega arith, sym e)
 place d (In.tail m) = let t = place d m in (suc t.0, omega (arith, t.1), t.2)
 
