@@ -1,9 +1,9 @@
 -- What holds of the order of names, beyond what a comparison answers. proofs/NameLaws.antt has that all of it holds.
-use Rattle.std.specs.Prelude.{◌≡◌, List, [], ◌∷◌, ◌++◌, ◌⊎◌, true}
+use Rattle.std.specs.Prelude.{◌≡◌, List, ◌∷◌, ◌++◌, ◌⊎◌, true}
 use Rattle.names.specs.declared.Tuple.{Tuple}
 use Rattle.names.specs.declared.Order.TheVariants.{Less, Same, More}
 use Rattle.names.specs.Ordering.{Row, compare_tuples, compare_rows, rising, ◌<ᵗ◌, ◌<ⁿ◌, Rising}
-use Rattle.names.specs.Names.{is_name, m, M, ordinary, lowered, one_below}
+use Rattle.names.specs.Names.{m, M, ordinary, lowered, one_below}
 
 pub record Laws : Type 0 where
   -- "Names compare at the first tuple that differs": the comparison answers what the relation says, so of two names one is below

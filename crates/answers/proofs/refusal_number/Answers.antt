@@ -1,5 +1,4 @@
 -- `answers::refusal_number` meets its contract. Assumes nothing.
-use borrow.Author.Rules.{rules}
 use Rattle.answers.proofs.refusal_number.Goals as goal
 
 pub returns-in-BadLayout : goal.returns-in-BadLayout

@@ -1,11 +1,10 @@
-use mathlib.Core.Path.{◌≡◌, refl, ◌∙◌, sym}
-use Prim.Native.Nat.{◌-◌, ◌≤◌}
+use mathlib.Core.Path.{◌≡◌, refl, ◌∙◌}
 use native.Mathlib.Omega.{arith}
 use borrow.Author.Rules.{rules}
-use lib.ListN.{length, take, length-map}
+use lib.ListN.{take}
 use Rattle.names.specs.Names.{limit, row_of, m as zero_tuple}
 use Rattle.names.specs.Ordering.{compare_rows}
-use Rattle.names.proofs.CompareTuples.{left, left_same, left_less, left_more, left_at}
+use Rattle.names.proofs.CompareTuples.{left_same, left_less, left_more, left_at}
 use Rattle.numbers.proofs.Lists.{take_min}
 use Rattle.names.proofs.compare.Goals as goal
 use Rattle.names.proofs.compare.Goals.{At-loop-i}

@@ -1,13 +1,10 @@
 -- `names::compare` meets its contract. Assumes nothing.
-use mathlib.Core.Path.{◌≡◌, refl, ◌∙◌, sym}
+use mathlib.Core.Path.{◌≡◌}
 use Prim.Native.Nat.{◌-◌, ◌≤◌}
-use native.Mathlib.Omega.{arith}
-use borrow.Author.Rules.{rules}
-use lib.ListN.{length, take, length-map}
-use Rattle.names.specs.Names.{limit, row_of, m as zero_tuple}
+use lib.ListN.{length, take}
+use Rattle.names.specs.Names.{limit}
 use Rattle.names.specs.Ordering.{compare_rows}
-use Rattle.names.proofs.CompareTuples.{left, left_same, left_less, left_more, left_at}
-use Rattle.numbers.proofs.Lists.{take_min}
+use Rattle.names.proofs.CompareTuples.{left}
 use Rattle.names.proofs.compare.Given as goal
 
 abbrev pub invariant-loop-i : goal.invariant-loop-i

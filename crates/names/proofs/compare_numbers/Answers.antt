@@ -11,4 +11,4 @@ pub returns-then-a-b-2 : goal.returns-then-a-b-2
 returns-then-a-b-2 c = sym (ℕ_less _ _ c.if-a-b-2.true)
 
 pub returns : goal.returns
-returns c =    let a = c.args in sym (ℕ_more a.a a.b (search rules))
+returns c = let a = c.args in sym (ℕ_more a.a a.b (search rules))

@@ -1,8 +1,7 @@
 -- `names::tuples_in` meets its contract. Assumes nothing.
 use mathlib.Core.Path.{◌∙◌}
 use native.Mathlib.Omega.{arith}
-use lib.ListN.{length-map, length-take}
-use borrow.Author.Rules.{rules}
+use lib.ListN.{length-take}
 use Rattle.names.proofs.tuples_in.Goals as goal
 
 pub returns : goal.returns

@@ -1,11 +1,9 @@
 use Rattle.numbers.proofs.Put.{put_none, copied_more}
-use mathlib.Core.Path.{◌≡◌, refl, ◌∙◌, ap}
-use Prim.Native.Nat.{◌-◌, ◌≤◌}
+use mathlib.Core.Path.{refl, ◌∙◌, ap}
 use native.Mathlib.Omega.{arith}
-use lib.ListN.{length, take, length-set}
+use lib.ListN.{length-set}
 use lib.Seq.{take_all}
 use Rattle.numbers.specs.Bytes.{put}
-use borrow.Author.Rules.{rules}
 use Rattle.numbers.proofs.copy.Goals as goal
 
 pub loop-i-init : goal.loop-i-init
@@ -19,7 +17,7 @@ loop-i-preserved c =
     (omega arith, simp length-set v.1, copied_more o s c.loop-i.out c.args.p c.loop-i.i c.requires c.loop-i-test.true v.2 (omega arith))
 
 pub shape_of-out : goal.shape_of-out
-shape_of-out c =    c.loop-i.invariant.1
+shape_of-out c = c.loop-i.invariant.1
 
 pub returns : goal.returns
 returns c =

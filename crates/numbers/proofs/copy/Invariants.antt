@@ -1,12 +1,8 @@
 -- `numbers::copy` meets its contract. Assumes nothing.
-use Rattle.numbers.proofs.Put.{put_none, copied_more}
-use mathlib.Core.Path.{◌≡◌, refl, ◌∙◌, ap}
+use mathlib.Core.Path.{◌≡◌}
 use Prim.Native.Nat.{◌-◌, ◌≤◌}
-use native.Mathlib.Omega.{arith}
-use lib.ListN.{length, take, length-set}
-use lib.Seq.{take_all}
+use lib.ListN.{length, take}
 use Rattle.numbers.specs.Bytes.{put}
-use borrow.Author.Rules.{rules}
 use Rattle.numbers.proofs.copy.Given as goal
 
 abbrev pub invariant-loop-i : goal.invariant-loop-i

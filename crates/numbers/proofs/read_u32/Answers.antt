@@ -4,7 +4,6 @@ use Prim.Native.Nat.{ℕ, ◌+◌, ◌*◌, ◌<◌}
 use native.Mathlib.Omega.{arith}
 use lib.ListN.{get_or}
 use Rattle.numbers.proofs.ReadNumbers.{turn_low}
-use borrow.Author.Rules.{rules}
 use Rattle.numbers.proofs.read_u32.Goals as goal
 
 pub returns : goal.returns

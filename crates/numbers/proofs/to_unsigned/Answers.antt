@@ -6,7 +6,6 @@ use lib.IntN.{pos, negsuc}
 use mir.Syntax.{w32}
 use mir.Val.{to_z, of_z}
 use mir.ValLaws.{to_z-of_z, to_z_pos}
-use borrow.Author.Rules.{rules}
 use Rattle.numbers.proofs.TwosComplement.{is_pos as high, is_neg as low, flipped}
 use Rattle.numbers.proofs.to_unsigned.Goals as goal
 use Rattle.numbers.proofs.to_unsigned.Goals.{Else-z-ge0, Then-z-ge0}

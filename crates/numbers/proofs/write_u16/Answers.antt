@@ -5,7 +5,6 @@ use native.Mathlib.Omega.{arith}
 use lib.ListN.{length-set}
 use lib.Seq.{sets-eq}
 use Rattle.numbers.specs.Bytes.{bytes16}
-use borrow.Author.Rules.{rules}
 use Rattle.numbers.proofs.write_u16.Goals as goal
 
 pub bounds-out-p-2 : goal.bounds-out-p-2

@@ -6,7 +6,6 @@ use lib.ListN.{length-set}
 use lib.Seq.{sets-eq}
 use Rattle.numbers.specs.Bytes.{put}
 use Rattle.numbers.proofs.NumberBytes.{low, low_turned}
-use borrow.Author.Rules.{rules}
 use Rattle.numbers.proofs.write_u32.Goals as goal
 
 pub bounds-out-p-2 : goal.bounds-out-p-2

@@ -1,16 +1,15 @@
 use mathlib.Core.Path.{◌≡◌, refl, ◌∙◌, sym, ap}
 use mathlib.Core.List.{[], ◌∷◌}
-use Prim.Native.Nat.{ℕ, ◌+◌, ◌*◌, ◌-◌, ◌≤◌}
+use Prim.Native.Nat.{ℕ, ◌+◌, ◌*◌}
 use native.Mathlib.Omega.{arith}
 use lib.ListN.{length, replicate, length-replicate}
 use Rattle.numbers.specs.Bytes.{put}
 use Rattle.numbers.proofs.Put.{put_more, put_none}
 use Rattle.numbers.proofs.Zeros.{zeros_on}
-use borrow.Author.Rules.{rules}
 use Rattle.numbers.proofs.write_zeros.Goals as goal
 
 pub loop-k-init : goal.loop-k-init
-loop-k-init c =    (omega arith, refl, put_none c.args.out.now c.args.p)
+loop-k-init c = (omega arith, refl, put_none c.args.out.now c.args.p)
 
 pub loop-k-preserved : goal.loop-k-preserved
 loop-k-preserved c =
@@ -23,7 +22,7 @@ loop-k-preserved c =
     (omega arith, c.write_u32.auto.out ∙ v.1, d ∙ sym (ap (put o p) (zeros_on k)))
 
 pub shape_of-out : goal.shape_of-out
-shape_of-out c =    c.loop-k.invariant.1
+shape_of-out c = c.loop-k.invariant.1
 
 pub returns : goal.returns
 returns c =

@@ -1,13 +1,8 @@
 -- `numbers::write_zeros` meets its contract. Assumes nothing.
-use mathlib.Core.Path.{◌≡◌, refl, ◌∙◌, sym, ap}
-use mathlib.Core.List.{[], ◌∷◌}
-use Prim.Native.Nat.{ℕ, ◌+◌, ◌*◌, ◌-◌, ◌≤◌}
-use native.Mathlib.Omega.{arith}
-use lib.ListN.{length, replicate, length-replicate}
+use mathlib.Core.Path.{◌≡◌}
+use Prim.Native.Nat.{◌*◌, ◌-◌, ◌≤◌}
+use lib.ListN.{length, replicate}
 use Rattle.numbers.specs.Bytes.{put}
-use Rattle.numbers.proofs.Put.{put_more, put_none}
-use Rattle.numbers.proofs.Zeros.{zeros_on}
-use borrow.Author.Rules.{rules}
 use Rattle.numbers.proofs.write_zeros.Given as goal
 
 abbrev pub invariant-loop-k : goal.invariant-loop-k
