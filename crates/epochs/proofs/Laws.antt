@@ -1,19 +1,18 @@
 -- The laws of specs/Laws.antt hold (`laws`). Assumes nothing.
-use mathlib.Core.Path.{◌≡◌, refl, sym, ap, subst, ◌∙◌}
-use mathlib.Core.List.{List, [], ◌∷◌}
-use mathlib.Core.Bool.{Bool, true, false}
+use mathlib.Core.Path.{◌≡◌, sym, ap, subst, ◌∙◌}
+use mathlib.Core.List.{[], ◌∷◌}
+use mathlib.Core.Bool.{true}
 use Prim.Native.Nat.{ℕ}
 use native.Mathlib.Omega.{arith}
 use borrow.Author.Tests.{ltb-true}
 use lib.ListN.{length, length-map}
 use Rattle.names.specs.declared.Author.{Author}
 use Rattle.numbers.specs.Bytes.{Bytes}
-use Rattle.answers.specs.Answers.{Outcome, Test, ◌else◌, ask, in_order, count_of}
+use Rattle.answers.specs.Answers.{Outcome, ◌else◌, count_of}
 use Rattle.answers.specs.declared.Refusal.{Refusal}
 use Rattle.answers.specs.declared.Refusal.TheVariants.{BadTable}
 use Rattle.answers.specs.declared.Answer.TheVariants.{Accepted, Refused}
 use Rattle.answers.proofs.Outcomes.{no_answer}
-use Rattle.answers.specs.Laws.{Passed}
 use Rattle.answers.proofs.Refusals.{reached}
 use Rattle.epoch_tree.specs.declared.Step.{Step}
 use Rattle.epoch_tree.specs.Tables.{entries_of, entry_bytes, entry_pieces, keeps_table, added}

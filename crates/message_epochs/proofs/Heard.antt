@@ -1,11 +1,11 @@
 -- The laws of specs/Heard.antt hold (`laws`). Assumes nothing.
-use mathlib.Core.Path.{◌≡◌, refl, sym, ap, subst, ◌∙◌}
+use mathlib.Core.Path.{◌≡◌, sym, ap, subst, ◌∙◌}
 use mathlib.Core.List.{List, map}
-use mathlib.Core.Bool.{Bool, true, cond, ◌&&◌}
+use mathlib.Core.Bool.{true, ◌&&◌}
 use Prim.Native.Nat.{ℕ, ◌+◌, ◌/◌, ◌<◌, ◌≤◌}
 use native.Mathlib.Omega.{arith}
-use borrow.Author.Tests.{eq-eqb, leb-true, le-leb}
-use lib.Dec.{eqb, leb}
+use borrow.Author.Tests.{leb-true, le-leb}
+use lib.Dec.{leb}
 use lib.ListN.{length}
 use Rattle.names.specs.declared.Author.{Author}
 use Rattle.names.specs.declared.Order.TheVariants.{Same}
@@ -18,8 +18,8 @@ use Rattle.answers.specs.Answers.{Outcome}
 use Rattle.slots.specs.Slots.{Slot}
 use Rattle.pages.specs.Pages.{max_slots, name_in}
 use Rattle.messages.specs.declared.Numbers.{Numbers}
-use Rattle.messages.specs.Messages.{rename, most_names, names_in, numbers_in, parts_in, keeps_message}
-use Rattle.messages.specs.Calls.{read_outcome, numbers_read}
+use Rattle.messages.specs.Messages.{most_names, names_in, numbers_in, parts_in, keeps_message}
+use Rattle.messages.specs.Calls.{numbers_read}
 use Rattle.messages.proofs.Laws as messages
 use Rattle.messages.proofs.TestsPassed.{Good, good}
 use Rattle.messages.proofs.BareSlots.{names_bare}

@@ -3,8 +3,6 @@ use mathlib.Core.Path.{◌≡◌, sym, ◌∙◌}
 use Prim.Native.Nat.{◌+◌}
 use native.Mathlib.Omega.{arith}
 use lib.ListN.{length}
-use borrow.Author.Tests.{not-true, not-false}
-use borrow.Author.Rules.{rules}
 use Rattle.numbers.proofs.Put.{put_more}
 use Rattle.answers.proofs.Outcomes.{refused, accepted}
 use Rattle.epoch_tree.specs.Tables.{entry_bytes}
@@ -24,8 +22,8 @@ returns-then-not-table_ok c =
     let room = length c.args.out.now in
     let bad = sym c.table_ok.ensures ∙ c.if-not-table_ok.true in
     let both : (_ ≡ (add_outcome c.args.table.now c.args.parent c.args.author c.args.count (length c.args.out.now)).answer) × (_ ≡ leaves (add_outcome c.args.table.now c.args.parent c.args.author c.args.count (length c.args.out.now)) c.args.out.now) =
-      refused _ _ _ (bad_table table parent author count room bad)
-    in record { value = both.0; out_after = both.1; }
+    refused _ _ _ (bad_table table parent author count room bad)
+    in record { value = both.0; out_after = both.1 }
 
 pub returns-then-n-parent : goal.returns-then-n-parent
 returns-then-n-parent c =
@@ -36,8 +34,8 @@ returns-then-n-parent c =
     let count = c.args.count in
     let room = length c.args.out.now in
     let both : (_ ≡ (add_outcome c.args.table.now c.args.parent c.args.author c.args.count (length c.args.out.now)).answer) × (_ ≡ leaves (add_outcome c.args.table.now c.args.parent c.args.author c.args.count (length c.args.out.now)) c.args.out.now) =
-      refused _ _ _ (no_epoch table parent author count room kept c.if-n-parent.true)
-    in record { value = both.0; out_after = both.1; }
+    refused _ _ _ (no_epoch table parent author count room kept c.if-n-parent.true)
+    in record { value = both.0; out_after = both.1 }
 
 pub returns-then-author-lt1 : goal.returns-then-author-lt1
 returns-then-author-lt1 c =
@@ -48,8 +46,8 @@ returns-then-author-lt1 c =
     let count = c.args.count in
     let room = length c.args.out.now in
     let both : (_ ≡ (add_outcome c.args.table.now c.args.parent c.args.author c.args.count (length c.args.out.now)).answer) × (_ ≡ leaves (add_outcome c.args.table.now c.args.parent c.args.author c.args.count (length c.args.out.now)) c.args.out.now) =
-      refused _ _ _ (no_author table parent author count room kept c.if-n-parent.false c.if-author-lt1.true)
-    in record { value = both.0; out_after = both.1; }
+    refused _ _ _ (no_author table parent author count room kept c.if-n-parent.false c.if-author-lt1.true)
+    in record { value = both.0; out_after = both.1 }
 
 pub returns-then-not-count_ok : goal.returns-then-not-count_ok
 returns-then-not-count_ok c =
@@ -61,8 +59,8 @@ returns-then-not-count_ok c =
     let room = length c.args.out.now in
     let none = sym c.count_ok.ensures ∙ c.if-not-count_ok.true in
     let both : (_ ≡ (add_outcome c.args.table.now c.args.parent c.args.author c.args.count (length c.args.out.now)).answer) × (_ ≡ leaves (add_outcome c.args.table.now c.args.parent c.args.author c.args.count (length c.args.out.now)) c.args.out.now) =
-      refused _ _ _ (no_count table parent author count room kept c.if-n-parent.false c.if-author-lt1.false none)
-    in record { value = both.0; out_after = both.1; }
+    refused _ _ _ (no_count table parent author count room kept c.if-n-parent.false c.if-author-lt1.false none)
+    in record { value = both.0; out_after = both.1 }
 
 pub returns-then-is_listed : goal.returns-then-is_listed
 returns-then-is_listed c =
@@ -75,8 +73,8 @@ returns-then-is_listed c =
     let room = length c.args.out.now in
     let l = sym (listed_all table author parent count) ∙ sym c.is_listed.ensures in
     let both : (_ ≡ (add_outcome c.args.table.now c.args.parent c.args.author c.args.count (length c.args.out.now)).answer) × (_ ≡ leaves (add_outcome c.args.table.now c.args.parent c.args.author c.args.count (length c.args.out.now)) c.args.out.now) =
-      refused _ _ _ (listed_refused table parent author count room kept c.if-n-parent.false c.if-author-lt1.false counted (l ∙ c.if-is_listed.true))
-    in record { value = both.0; out_after = both.1; }
+    refused _ _ _ (listed_refused table parent author count room kept c.if-n-parent.false c.if-author-lt1.false counted (l ∙ c.if-is_listed.true))
+    in record { value = both.0; out_after = both.1 }
 
 pub returns-then-n-ge-ENTRIES : goal.returns-then-n-ge-ENTRIES
 returns-then-n-ge-ENTRIES c =
@@ -90,8 +88,8 @@ returns-then-n-ge-ENTRIES c =
     let l = sym (listed_all table author parent count) ∙ sym c.is_listed.ensures in
     let full = full_refused table parent author count room kept c.if-n-parent.false c.if-author-lt1.false counted (l ∙ c.if-is_listed.false) in
     let both : (_ ≡ (add_outcome c.args.table.now c.args.parent c.args.author c.args.count (length c.args.out.now)).answer) × (_ ≡ leaves (add_outcome c.args.table.now c.args.parent c.args.author c.args.count (length c.args.out.now)) c.args.out.now) =
-      refused _ _ _ (full c.if-n-ge-ENTRIES.true)
-    in record { value = both.0; out_after = both.1; }
+    refused _ _ _ (full c.if-n-ge-ENTRIES.true)
+    in record { value = both.0; out_after = both.1 }
 
 pub returns-then-out-table : goal.returns-then-out-table
 returns-then-out-table c =
@@ -105,8 +103,8 @@ returns-then-out-table c =
     let l = sym (listed_all table author parent count) ∙ sym c.is_listed.ensures in
     let short = short_refused table parent author count room kept c.if-n-parent.false c.if-author-lt1.false counted (l ∙ c.if-is_listed.false) c.if-n-ge-ENTRIES.false in
     let both : (_ ≡ (add_outcome c.args.table.now c.args.parent c.args.author c.args.count (length c.args.out.now)).answer) × (_ ≡ leaves (add_outcome c.args.table.now c.args.parent c.args.author c.args.count (length c.args.out.now)) c.args.out.now) =
-      refused _ _ _ (short c.if-out-table.true)
-    in record { value = both.0; out_after = both.1; }
+    refused _ _ _ (short c.if-out-table.true)
+    in record { value = both.0; out_after = both.1 }
 
 pub returns : goal.returns
 returns c =
@@ -124,5 +122,5 @@ returns c =
     let e = entry_bytes (entry_by author parent count) in
     let z : length table ≡ 0 + length table = omega arith in
     let both : (_ ≡ (add_outcome c.args.table.now c.args.parent c.args.author c.args.count (length c.args.out.now)).answer) × (_ ≡ leaves (add_outcome c.args.table.now c.args.parent c.args.author c.args.count (length c.args.out.now)) c.args.out.now) =
-      accepted _ _ _ o _ outcome (put_more o 0 (omega arith) table e c.copy.ensures z c.write_entry.ensures)
-    in record { value = both.0; out_after = both.1; }
+    accepted _ _ _ o _ outcome (put_more o 0 (omega arith) table e c.copy.ensures z c.write_entry.ensures)
+    in record { value = both.0; out_after = both.1 }

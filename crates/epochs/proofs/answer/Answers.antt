@@ -4,4 +4,4 @@ use Rattle.epochs.specs.Calls.{answer_of}
 use Rattle.epochs.proofs.answer.Goals as goal
 
 pub returns-in-Refused : goal.returns-in-Refused
-returns-in-Refused c =    ap answer_of (sym c.in-Refused.is)
+returns-in-Refused c = ap answer_of (sym c.in-Refused.is)

@@ -1,14 +1,12 @@
 -- `epochs::check_table` meets its contract. Assumes nothing.
 use mathlib.Core.Path.{sym, ◌∙◌}
-use borrow.Author.Tests.{not-true, not-false}
 use Rattle.epochs.specs.Calls.{check_table}
 use Rattle.epoch_tree.proofs.TableBytes.{length_entries}
-use borrow.Author.Rules.{rules}
 use Rattle.epochs.proofs.check_table.Goals as goal
 
 pub returns-then-not-table_ok : goal.returns-then-not-table_ok
 unfolding check_table
-returns-then-not-table_ok c =    simp (sym c.table_ok.ensures ∙ c.if-not-table_ok.true)
+returns-then-not-table_ok c = simp (sym c.table_ok.ensures ∙ c.if-not-table_ok.true)
 
 pub returns : goal.returns
 unfolding check_table

@@ -2,13 +2,9 @@
 use mathlib.Core.Path.{refl, sym, ap, ◌∙◌}
 use Prim.Native.Nat.{◌<◌, ◌≤◌}
 use native.Mathlib.Omega.{arith}
-use borrow.Author.Tests.{le-leb, lt-leb, lt-ltb, le-ltb, not-true, not-false}
+use borrow.Author.Tests.{le-leb, lt-leb, lt-ltb, le-ltb}
 use Rattle.numbers.proofs.Bools.{yes_no}
 use Rattle.epoch_tree.specs.Tables.{entry_at, entries_of, is_count}
-use borrow.Author.Rules.{rules}
-use Rattle.std.specs.Prelude.{◌≡◌, true, ◌+◌, length}
-use Rattle.epoch_tree.specs.Tables.{keeps_entry}
-use Rattle.epochs.specs.Pairs.{groups, Under}
 use Rattle.epochs.proofs.entry_ok.Goals as goal
 
 pub returns-then-node_of-lt1 : goal.returns-then-node_of-lt1
@@ -54,9 +50,7 @@ returns c =
     let has_node : 1 ≤ e.node = omega arith in
     let below : e.parent < c.args.i = omega arith in
     let counted = ap is_count (sym c.count_of.ensures) ∙ sym c.count_ok.ensures ∙ c.if-not-count_ok.false in
-    let both : (_ ≡ keeps_entry (entries_of c.args.table.now) c.args.i (entry_at (entries_of c.args.table.now) c.args.i)) × (_ ≡ true → (length _ ≡ groups) × Under (entries_of c.args.table.now) (c.args.i + 1) _) =
-      (
-      simp (le-leb 1 e.node has_node, lt-ltb e.parent c.args.i below, counted) c.is_new.ensures.value,
-      λ t. c.is_new.ensures.tops_len,
-    )
-    in record { value = both.0; tops_len = both.1; }
+    record {
+      value = simp (le-leb 1 e.node has_node, lt-ltb e.parent c.args.i below, counted) c.is_new.ensures.value;
+      tops_len = λ t. c.is_new.ensures.tops_len;
+    }

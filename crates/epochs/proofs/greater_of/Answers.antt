@@ -2,7 +2,6 @@
 use mathlib.Core.Path.{sym, ap, ◌∙◌}
 use mathlib.Core.Bool.{Bool, cond}
 use lib.ListN.{take}
-use borrow.Author.Rules.{rules}
 use Rattle.epoch_tree.specs.Tables.{entries_of}
 use Rattle.epoch_tree.proofs.SmallerByParent.{smaller_or_lem}
 use Rattle.epochs.proofs.greater_of.Goals as goal

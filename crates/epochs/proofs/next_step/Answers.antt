@@ -3,17 +3,16 @@ use mathlib.Core.Path.{sym, ap, ◌∙◌}
 use Prim.Native.Nat.{◌<◌, ◌≤◌}
 use native.Mathlib.Omega.{arith}
 use lib.ListN.{length}
-use borrow.Author.Tests.{lt-ltb, le-ltb, not-true, not-false}
+use borrow.Author.Tests.{lt-ltb, le-ltb}
 use Rattle.epoch_tree.specs.Tables.{entries_of}
 use Rattle.epochs.specs.Calls.{next_step_outcome}
 use Rattle.epoch_tree.proofs.TableBytes.{length_entries}
 use Rattle.epochs.specs.declared.Next.TheVariants.{Take}
-use borrow.Author.Rules.{rules}
 use Rattle.epochs.proofs.next_step.Goals as goal
 
 pub returns-then-not-table_ok : goal.returns-then-not-table_ok
 unfolding next_step_outcome
-returns-then-not-table_ok c =    simp (sym c.table_ok.ensures ∙ c.if-not-table_ok.true)
+returns-then-not-table_ok c = simp (sym c.table_ok.ensures ∙ c.if-not-table_ok.true)
 
 pub returns-then-table-current : goal.returns-then-table-current
 unfolding next_step_outcome
@@ -24,7 +23,7 @@ returns-then-table-current c =
     simp (kept, le-ltb c.args.current (length t) past)
 
 pub step_in-requires : goal.step_in-requires
-step_in-requires c =    (sym c.table_ok.ensures ∙ c.if-not-table_ok.false, c.if-table-current.false)
+step_in-requires c = (sym c.table_ok.ensures ∙ c.if-not-table_ok.false, c.if-table-current.false)
 
 pub returns : goal.returns
 unfolding next_step_outcome

@@ -1,13 +1,8 @@
 use mathlib.Core.Path.{◌≡◌, refl, sym, ap, ◌∙◌}
-use Prim.Native.Nat.{ℕ, ◌+◌, ◌-◌, ◌/◌, ◌<◌, ◌≤◌}
 use native.Mathlib.Omega.{arith}
-use borrow.Author.Tests.{not-true, not-false}
-use borrow.Author.Rules.{rules}
-use lib.ListN.{length, drop}
-use Rattle.epoch_tree.specs.Tables.{Entry, entry_size, entry_at, entries_of, keeps_from}
+use Rattle.epoch_tree.specs.Tables.{Entry, entry_at, entries_of}
 use Rattle.epoch_tree.proofs.TableFacts.{first_zero}
 use Rattle.epoch_tree.proofs.TableBytes.{length_entries}
-use Rattle.epochs.specs.Pairs.{groups, Under}
 use Rattle.epochs.proofs.LoopTurns.{keeps_turn, keeps_end}
 use Rattle.epochs.proofs.others_ok.Goals as goal
 
@@ -18,7 +13,7 @@ loop-i-init c =
     (refl, omega arith, omega arith, refl, refl, λ k l. let e : k ≡ 0 = omega arith in rw e (omega arith))
 
 pub entry_ok-requires : goal.entry_ok-requires
-entry_ok-requires c =    (omega arith, c.loop-i.invariant.4, c.loop-i.invariant.5)
+entry_ok-requires c = (omega arith, c.loop-i.invariant.4, c.loop-i.invariant.5)
 
 pub returns-then-not-entry_ok : goal.returns-then-not-entry_ok
 returns-then-not-entry_ok c =

@@ -1,15 +1,9 @@
 -- `epochs::others_ok` meets its contract. Assumes nothing.
-use mathlib.Core.Path.{◌≡◌, refl, sym, ap, ◌∙◌}
-use Prim.Native.Nat.{ℕ, ◌+◌, ◌-◌, ◌/◌, ◌<◌, ◌≤◌}
-use native.Mathlib.Omega.{arith}
-use borrow.Author.Tests.{not-true, not-false}
-use borrow.Author.Rules.{rules}
+use mathlib.Core.Path.{◌≡◌}
+use Prim.Native.Nat.{◌-◌, ◌/◌, ◌≤◌}
 use lib.ListN.{length, drop}
-use Rattle.epoch_tree.specs.Tables.{Entry, entry_size, entry_at, entries_of, keeps_from}
-use Rattle.epoch_tree.proofs.TableFacts.{first_zero}
-use Rattle.epoch_tree.proofs.TableBytes.{length_entries}
+use Rattle.epoch_tree.specs.Tables.{entry_size, entries_of, keeps_from}
 use Rattle.epochs.specs.Pairs.{groups, Under}
-use Rattle.epochs.proofs.LoopTurns.{keeps_turn, keeps_end}
 use Rattle.epochs.proofs.others_ok.Given as goal
 
 abbrev pub invariant-loop-i : goal.invariant-loop-i

@@ -32,4 +32,4 @@ byte_at-requires c =
     omega arith
 
 pub returns : goal.returns
-returns c =    c.byte_at.ensures ∙ parent_byte c.args.tree.now c.args.size c.args.k c.requires.1 c.requires.0
+returns c = c.byte_at.ensures ∙ parent_byte c.args.tree.now c.args.size c.args.k c.requires.1 c.requires.0

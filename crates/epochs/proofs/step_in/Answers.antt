@@ -1,11 +1,10 @@
 -- `epochs::step_in` meets its contract. Assumes nothing.
 use mathlib.Core.Path.{◌≡◌, ap, ◌∙◌}
-use Prim.Native.Nat.{◌/◌, ◌<◌, ◌≤◌}
+use Prim.Native.Nat.{◌<◌, ◌≤◌}
 use native.Mathlib.Omega.{arith}
 use lib.ListN.{length, take, length-take}
-use borrow.Author.Rules.{rules}
 use Rattle.numbers.specs.Bytes.{Bytes}
-use Rattle.epoch_tree.specs.Tables.{entry_size, max_entries, entries_of, keeps_table}
+use Rattle.epoch_tree.specs.Tables.{max_entries, entries_of, keeps_table}
 use Rattle.epoch_tree.specs.Tree.{target, step_to}
 use Rattle.epoch_tree.proofs.OrderAndTarget.{target_in}
 use Rattle.epoch_tree.proofs.TableBytes.{checked, length_entries, whole}

@@ -1,9 +1,8 @@
 -- `epochs::step_to` meets its contract. Assumes nothing.
-use mathlib.Core.Path.{◌≡◌, sym, ap, ◌∙◌}
+use mathlib.Core.Path.{sym, ap, ◌∙◌}
 use Prim.Native.Nat.{ℕ, ◌<◌}
 use native.Mathlib.Omega.{arith}
 use lib.ListN.{take}
-use borrow.Author.Rules.{rules}
 use Rattle.epoch_tree.specs.declared.Step.TheVariants.{Up}
 use Rattle.epoch_tree.specs.Tables.{entries_of}
 use Rattle.epoch_tree.specs.Tree.{parent_of, step_to}

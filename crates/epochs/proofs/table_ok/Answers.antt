@@ -3,8 +3,7 @@ use mathlib.Core.Path.{sym, ◌∙◌}
 use Prim.Native.Nat.{◌/◌, ◌%◌, ◌<◌, ◌≤◌}
 use native.Mathlib.Omega.{arith}
 use lib.ListN.{length}
-use borrow.Author.Tests.{eq-eqb, ne_eqb, le-leb, lt-leb, not-true, not-false}
-use borrow.Author.Rules.{rules}
+use borrow.Author.Tests.{eq-eqb, ne_eqb, le-leb, lt-leb}
 use Rattle.epoch_tree.specs.Tables.{entry_size, max_entries}
 use Rattle.epochs.proofs.LoopTurns.{tests}
 use Rattle.epochs.proofs.table_ok.Goals as goal
@@ -39,7 +38,7 @@ returns-then-not-first_ok c =
     simp (tests s, whole, le-leb 1 (length s / entry_size) some, le-leb (length s / entry_size) max_entries few, bad)
 
 pub others_ok-requires : goal.others_ok-requires
-others_ok-requires c =    (omega arith, sym c.first_ok.ensures ∙ c.if-not-first_ok.false)
+others_ok-requires c = (omega arith, sym c.first_ok.ensures ∙ c.if-not-first_ok.false)
 
 pub returns : goal.returns
 returns c =

@@ -1,9 +1,8 @@
 use mathlib.Core.Path.{◌≡◌, refl, ap, ◌∙◌}
-use Prim.Native.Nat.{ℕ, ◌-◌, ◌/◌, ◌<◌, ◌≤◌}
+use Prim.Native.Nat.{ℕ, ◌-◌, ◌<◌, ◌≤◌}
 use native.Mathlib.Omega.{arith}
-use borrow.Author.Rules.{rules}
 use lib.ListN.{length, take, length-take}
-use Rattle.epoch_tree.specs.Tables.{entry_size, entries_of}
+use Rattle.epoch_tree.specs.Tables.{entries_of}
 use Rattle.epoch_tree.specs.Tree.{greater, greatest_to}
 use Rattle.epoch_tree.proofs.OrderAndTarget.{greatest_in}
 use Rattle.epoch_tree.proofs.TableBytes.{checked, length_entries}

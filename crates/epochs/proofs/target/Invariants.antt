@@ -1,14 +1,9 @@
 -- `epochs::target` meets its contract. Assumes nothing.
-use mathlib.Core.Path.{◌≡◌, refl, ap, ◌∙◌}
-use Prim.Native.Nat.{ℕ, ◌-◌, ◌/◌, ◌<◌, ◌≤◌}
-use native.Mathlib.Omega.{arith}
-use borrow.Author.Rules.{rules}
-use lib.ListN.{length, take, length-take}
+use mathlib.Core.Path.{◌≡◌}
+use Prim.Native.Nat.{◌-◌, ◌/◌, ◌≤◌}
+use lib.ListN.{length, take}
 use Rattle.epoch_tree.specs.Tables.{entry_size, entries_of}
-use Rattle.epoch_tree.specs.Tree.{greater, greatest_to}
-use Rattle.epoch_tree.proofs.OrderAndTarget.{greatest_in}
-use Rattle.epoch_tree.proofs.TableBytes.{checked, length_entries}
-use Rattle.epochs.proofs.LoopTurns.{greatest_turn}
+use Rattle.epoch_tree.specs.Tree.{greatest_to}
 use Rattle.epochs.proofs.target.Given as goal
 
 abbrev pub invariant-loop-k : goal.invariant-loop-k
