@@ -1,11 +1,10 @@
 use mathlib.Core.Path.{◌≡◌, refl}
-use Prim.Native.Nat.{◌-◌, ◌/◌, ◌<◌}
+use Prim.Native.Nat.{◌/◌, ◌<◌}
 use native.Mathlib.Omega.{arith}
 use lib.ListN.{length}
 use Rattle.slots.specs.Tuples.{row_at}
 use Rattle.slots.specs.Slots.{slot_size}
-use Rattle.write_messages.proofs.NamesIntoFields.{Filling, filling_first, filling_fits, filling_on, filling_end}
-use borrow.Author.Rules.{rules}
+use Rattle.write_messages.proofs.NamesIntoFields.{filling_first, filling_fits, filling_on, filling_end}
 use Rattle.std.specs.Prelude.{◌+◌}
 use mathlib.Core.List.{map, flatten}
 use Rattle.numbers.specs.Bytes.{put}
@@ -29,7 +28,7 @@ loop-k-preserved c =
     let h : c.loop-k.k < length s / slot_size = omega arith in
     let name = c.span_of in
     let w = c.write_name-place in
-    (refl, filling_on c.loop-k.invariant.1 h (row_at s name.result) name.ensures.1 c.requires w.last.0 w.result w.ensures.1 w.ensures.0)
+    (refl, filling_on c.loop-k.invariant.1 h (row_at s name.result) name.ensures.1 c.requires w.new.out w.result w.ensures.out_after w.ensures.value)
 
 pub shape_of-out : goal.shape_of-out
 shape_of-out c =    c.loop-k.invariant.1.room
