@@ -70,7 +70,7 @@ returns-then-passed-lt1 c =
     c.untold-then-passed-lt1.ensures ∙ sym (telling_by (drop p s) true true false _ _ stood g w refl refl)
 
 pub ends-requires : goal.ends-requires
-ends-requires c =    (c.pass_names-passed.ensures.names_value (not-false c.pass_names-passed.result.good c.if-not-passed.false)).2
+ends-requires c = (c.pass_names-passed.ensures.names_value (not-false c.pass_names-passed.result.good c.if-not-passed.false)).2
 
 pub returns-then-not-ends : goal.returns-then-not-ends
 returns-then-not-ends c =

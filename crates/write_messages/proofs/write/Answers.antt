@@ -21,8 +21,8 @@ returns-then-not-may_write c =
     let o = c.args.out.now in
     let h = sym c.may_write.ensures ∙ c.if-not-may_write.true in
     let both : (_ ≡ (write_outcome c.args.numbers c.args.names.now (length c.args.out.now)).answer) × (_ ≡ leaves (write_outcome c.args.numbers c.args.names.now (length c.args.out.now)) c.args.out.now) =
-      refused (write_outcome x s (length o)) Malformed o (write_malformed x s (length o) h)
-    in record { value = both.0; out_after = both.1; }
+    refused (write_outcome x s (length o)) Malformed o (write_malformed x s (length o) h)
+    in record { value = both.0; out_after = both.1 }
 
 pub message_size-size-requires : goal.message_size-size-requires
 message_size-size-requires c =
@@ -37,8 +37,8 @@ returns-then-out-size c =
     let h = sym c.may_write.ensures ∙ c.if-not-may_write.false in
     let l : length o < length (message_bytes (parts_given x s)) = let z = c.message_size-size.ensures in omega arith in
     let both : (_ ≡ (write_outcome c.args.numbers c.args.names.now (length c.args.out.now)).answer) × (_ ≡ leaves (write_outcome c.args.numbers c.args.names.now (length c.args.out.now)) c.args.out.now) =
-      refused (write_outcome x s (length o)) Short o (write_too_long x s (length o) h l)
-    in record { value = both.0; out_after = both.1; }
+    refused (write_outcome x s (length o)) Short o (write_too_long x s (length o) h l)
+    in record { value = both.0; out_after = both.1 }
 
 pub returns : goal.returns
 returns c =
@@ -51,5 +51,5 @@ returns c =
     let l : length w ≤ length o = omega arith in
     let e = write_done x s (length o) h l ∙ (λ i. record { answer = Accepted (sym z i); bytes = w }) in
     let both : (_ ≡ (write_outcome c.args.numbers c.args.names.now (length c.args.out.now)).answer) × (_ ≡ leaves (write_outcome c.args.numbers c.args.names.now (length c.args.out.now)) c.args.out.now) =
-      accepted (write_outcome x s (length o)) c.message_size-size.result w o c.write_fields.new.out e c.write_fields.ensures
-    in record { value = both.0; out_after = both.1; }
+    accepted (write_outcome x s (length o)) c.message_size-size.result w o c.write_fields.new.out e c.write_fields.ensures
+    in record { value = both.0; out_after = both.1 }
