@@ -5,4 +5,3 @@ pub mod SecondPassSlots
 pub mod WhatWasTold
 pub mod Settled
 pub mod WalkOneParameter
-pub mod ReaderOwns

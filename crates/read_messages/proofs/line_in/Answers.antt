@@ -13,10 +13,10 @@ use Rattle.read_messages.proofs.AtCursor.{line_long}
 use Rattle.read_messages.proofs.line_in.Goals as goal
 
 pub overflow_add-cursor : goal.overflow_add-cursor
-overflow_add-cursor c =    let v = line_long c.args.message.now c.args.cursor.at c.args.kind c.if-kind-eq-INSERT.true c.requires in omega arith
+overflow_add-cursor c = let v = line_long c.args.message.now c.args.cursor.at c.args.kind c.if-kind-eq-INSERT.true c.requires in omega arith
 
 pub read_u32-requires : goal.read_u32-requires
-read_u32-requires c =    let v = line_long c.args.message.now c.args.cursor.at c.args.kind c.if-kind-eq-INSERT.true c.requires in omega arith
+read_u32-requires c = let v = line_long c.args.message.now c.args.cursor.at c.args.kind c.if-kind-eq-INSERT.true c.requires in omega arith
 
 pub returns-then-kind-eq-INSERT : goal.returns-then-kind-eq-INSERT
 returns-then-kind-eq-INSERT c =

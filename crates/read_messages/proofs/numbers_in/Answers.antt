@@ -9,7 +9,7 @@ use Rattle.read_messages.proofs.AtCursor.{pair_at}
 use Rattle.read_messages.proofs.numbers_in.Goals as goal
 
 pub line_in-line-requires : goal.line_in-line-requires
-line_in-line-requires c =    (λ i. ends_as (c.kind_in-kind.ensures i) (c.requires.names_place_in_bounds.1 i)) ∙ c.requires.message_value
+line_in-line-requires c = (λ i. ends_as (c.kind_in-kind.ensures i) (c.requires.names_place_in_bounds.1 i)) ∙ c.requires.message_value
 
 pub returns : goal.returns
 returns c =

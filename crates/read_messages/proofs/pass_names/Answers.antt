@@ -12,10 +12,10 @@ use Rattle.read_messages.proofs.FirstPassNames.{Passing, passing_first, passing_
 use Rattle.read_messages.proofs.pass_names.Goals as goal
 
 pub loop-names-init : goal.loop-names-init
-loop-names-init c =    passing_first c.args.message.now c.args.cursor.at c.args.most c.requires
+loop-names-init c = passing_first c.args.message.now c.args.cursor.at c.args.most c.requires
 
 pub name_field-requires : goal.name_field-requires
-name_field-requires c =    c.loop-names.invariant.within
+name_field-requires c = c.loop-names.invariant.within
 
 pub overflow_add-name : goal.overflow_add-name
 overflow_add-name c =

@@ -18,14 +18,13 @@ use Rattle.messages.proofs.CallAnswers.{read_malformed, read_short, read_done}
 use Rattle.read_messages.specs.declared.Told.{Told}
 use Rattle.read_messages.proofs.SecondPassSlots.{slots_with}
 use Rattle.read_messages.proofs.WhatWasTold.{told_ok, told_is, names_told, told_few, told_fit}
-use borrow.Author.Rules.{rules}
 use Rattle.read_messages.proofs.read.Goals as goal
 
 pub returns-then-not-told : goal.returns-then-not-told
 returns-then-not-told c =
     let s = c.args.message.now in
     let o = c.args.out.now in
-    let ok = c.if-not-told.true in
+    let ok = not-true c.told_of-told.result.ok c.if-not-told.true in
     let h = sym (told_ok s) ∙ ap (λ (t : Told). t.ok) (sym c.told_of-told.ensures) ∙ ok in
     let e = read_malformed s (length o) h in
     let f = refused (read_outcome s (length o)) Malformed o e in
@@ -39,7 +38,7 @@ pub returns-then-out-told : goal.returns-then-out-told
 returns-then-out-told c =
     let s = c.args.message.now in
     let o = c.args.out.now in
-    let ok = c.if-not-told.false in
+    let ok = not-false c.told_of-told.result.ok c.if-not-told.false in
     let h = sym (told_ok s) ∙ ap (λ (t : Told). t.ok) (sym c.told_of-told.ensures) ∙ ok in
     let n = ap (λ (t : Told). t.names) (c.told_of-told.ensures ∙ told_is s h) in
     let l : length o < slot_size * length (names_in s) = let z = c.if-out-told.true in omega arith in
@@ -54,7 +53,7 @@ returns-then-out-told c =
 pub write_slots-requires : goal.write_slots-requires
 write_slots-requires c =
     let s = c.args.message.now in
-    let ok = c.if-not-told.false in
+    let ok = not-false c.told_of-told.result.ok c.if-not-told.false in
     let h = sym (told_ok s) ∙ ap (λ (t : Told). t.ok) (sym c.told_of-told.ensures) ∙ ok in
     let count = c.told_of-told.result.names in
     let n = ap (λ (t : Told). t.names) (c.told_of-told.ensures ∙ told_is s h) in
@@ -64,7 +63,7 @@ pub returns : goal.returns
 returns c =
     let s = c.args.message.now in
     let o = c.args.out.now in
-    let ok = c.if-not-told.false in
+    let ok = not-false c.told_of-told.result.ok c.if-not-told.false in
     let h = sym (told_ok s) ∙ ap (λ (t : Told). t.ok) (sym c.told_of-told.ensures) ∙ ok in
     let is = c.told_of-told.ensures ∙ told_is s h in
     let count = c.told_of-told.result.names in

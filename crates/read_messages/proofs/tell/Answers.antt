@@ -1,34 +1,35 @@
 -- `read_messages::tell` meets its contract. Assumes nothing.
--- ── once the names were passed ──
 use mathlib.Core.Path.{◌≡◌, refl, ◌∙◌, sym, ap}
-use mathlib.Core.Bool.{true, false}
-use Prim.Native.Nat.{◌≤◌}
+use mathlib.Core.Bool.{Bool, true, false}
+use Prim.Native.Nat.{ℕ, ◌+◌}
 use native.Mathlib.Omega.{arith}
 use lib.ListN.{length, drop}
 use borrow.Author.Tests.{le-leb, lt-leb, not-true, not-false}
 use Rattle.numbers.specs.Bytes.{Bytes}
 use Rattle.answers.specs.Answers.{ask}
-use Rattle.messages.specs.Messages.{ends_as, names_in, kind_in, rest_in, numbers_in}
+use Rattle.messages.specs.Messages.{ends_as, names_in, kind_in, rest_in, numbers_in, most_names, names_place, names_within, after_names}
 use Rattle.messages.proofs.TestsPassed.{ok_numbers}
-use Rattle.read_messages.specs.FirstPass.{numbers_stand, good_names, untold, all_told}
+use Rattle.read_messages.specs.FirstPass.{good_names, untold, all_told}
 use Rattle.read_messages.proofs.FirstPassTells.{numbers_long, names_found, rest_found, telling_by}
-use borrow.Author.Rules.{rules}
 use Rattle.read_messages.proofs.tell.Goals as goal
-use Rattle.read_messages.proofs.tell.Goals.{After-ends, After-pass_names-passed}
 
--- LOOK
-module _ (c : After-pass_names-passed) (good : c.pass_names-passed.result.good ≡ true) where
-  count : c.pass_names-passed.result.names ≡ length (names_in (bytes c))
-  count =
-      let s = (start_of c).args.message.now in
-      let found = names_found s (start_of c).args.cursor.at (kind-of c).kind-in.ensures (most-of c).most-names.ensures in
-      (c.pass_names-passed.ensures.names_value good).0 ∙ ap length found
+-- ── what passing the names of the message at p has given, by what passing promises ──
 
-  rest : drop c.pass-names.result.at (start_of c).args.message.now ≡ rest_in (bytes c)
-  rest =
-      let s = (start_of c).args.message.now in
-      (c.pass-names.ensures.1 good).1
-      ∙ rest_found s (start_of c).args.cursor.at (kind-of c).kind-in.ensures (most-of c).most-names.ensures
+module _ (s : Bytes) (p : ℕ) {kind most : ℕ} (k : kind ≡ kind_in (drop p s)) (m : most ≡ most_names kind) where
+  names : {g : Bool} → g ≡ good_names (names_within most (drop (p + names_place) s)) → good_names (names_in (drop p s)) ≡ g
+  names e = ap good_names (sym (names_found s p k m)) ∙ sym e
+
+  count : {n : ℕ} → n ≡ length (names_within most (drop (p + names_place) s)) → n ≡ length (names_in (drop p s))
+  count e = e ∙ ap length (names_found s p k m)
+
+  rest : (a : ℕ) → drop a s ≡ after_names most (drop (p + names_place) s) → drop a s ≡ rest_in (drop p s)
+  rest a e = e ∙ rest_found s p k m
+
+  ended : (a : ℕ) {b : Bool} → drop a s ≡ after_names most (drop (p + names_place) s) → b ≡ ends_as kind (drop a s)
+      → ends_as (kind_in (drop p s)) (rest_in (drop p s)) ≡ b
+  ended a r e = (λ i. ends_as (sym k i) (sym (rest a r) i)) ∙ sym e
+
+-- ── the goals ──
 
 pub returns-then-not-numbers_stand : goal.returns-then-not-numbers_stand
 returns-then-not-numbers_stand c =
@@ -50,81 +51,67 @@ pass_names-passed-requires c =
 
 pub returns-then-not-passed : goal.returns-then-not-passed
 returns-then-not-passed c =
-    let bytes : Bytes = drop c.args.cursor.at c.args.message.now in
-    let stood : numbers_stand bytes ≡ true = let n = c.numbers_stand in sym n.ensures ∙ c.if-not-numbers_stand.false in
-    let names : good_names (names_in bytes) ≡ c.pass_names-passed.result.good =
-      let s = c.args.message.now in
-    let found = names_found s c.args.cursor.at c.kind_in-kind.ensures c.most_names.ensures in
-    ap good_names (sym found) ∙ sym c.pass_names-passed.ensures.good_value in
-    let g = names ∙ c.if-not-passed.true in
-    c.untold-then-not-passed.ensures ∙ sym (telling_by bytes true false _ _ _ stood g refl refl refl)
+    let s = c.args.message.now in
+    let p = c.args.cursor.at in
+    let stood = sym c.numbers_stand.ensures ∙ c.if-not-numbers_stand.false in
+    let g = names s p c.kind_in-kind.ensures c.most_names.ensures c.pass_names-passed.ensures.good_value ∙ not-true c.pass_names-passed.result.good c.if-not-passed.true in
+    c.untold-then-not-passed.ensures ∙ sym (telling_by (drop p s) true false _ _ _ stood g refl refl refl)
 
 pub returns-then-passed-lt1 : goal.returns-then-passed-lt1
 returns-then-passed-lt1 c =
-    let bytes : Bytes = drop c.args.cursor.at c.args.message.now in
-    let stood : numbers_stand bytes ≡ true = let n = c.numbers_stand in sym n.ensures ∙ c.if-not-numbers_stand.false in
-    let names : good_names (names_in bytes) ≡ c.pass_names-passed.result.good =
-      let s = c.args.message.now in
-    let found = names_found s c.args.cursor.at c.kind_in-kind.ensures c.most_names.ensures in
-    ap good_names (sym found) ∙ sym c.pass_names-passed.ensures.good_value in
-    let n : After-pass_names-passed = search rules in
-    let g = c.if-not-passed.false in
-    let z = count n g in
-    let w = lt-leb 1 (length (names_in bytes)) (let y = c.if-passed-lt1.true in omega arith) in
-    c.untold-then-passed-lt1.ensures ∙ sym (telling_by bytes true true false _ _ stood (names ∙ g) w refl refl)
+    let s = c.args.message.now in
+    let p = c.args.cursor.at in
+    let k = c.kind_in-kind.ensures in
+    let m = c.most_names.ensures in
+    let stood = sym c.numbers_stand.ensures ∙ c.if-not-numbers_stand.false in
+    let g = names s p k m c.pass_names-passed.ensures.good_value ∙ not-false c.pass_names-passed.result.good c.if-not-passed.false in
+    let z = count s p k m (c.pass_names-passed.ensures.names_value (not-false c.pass_names-passed.result.good c.if-not-passed.false)).0 in
+    let w = lt-leb 1 (length (names_in (drop p s))) (let y = c.if-passed-lt1.true in omega arith) in
+    c.untold-then-passed-lt1.ensures ∙ sym (telling_by (drop p s) true true false _ _ stood g w refl refl)
 
 pub ends-requires : goal.ends-requires
-ends-requires c =    (c.pass_names-passed.ensures.names_value c.if-not-passed.false).2
+ends-requires c = (c.pass_names-passed.ensures.names_value (not-false c.pass_names-passed.result.good c.if-not-passed.false)).2
 
 pub returns-then-not-ends : goal.returns-then-not-ends
 returns-then-not-ends c =
-    let bytes : Bytes = drop c.args.cursor.at c.args.message.now in
-    let good : c.pass_names-passed.result.good ≡ true = c.if-not-passed.false in
-    let some : 1 ≤ length (names_in bytes =
-      let n = count c good in
-    let y = c.if-passed-lt1.false in
-    omega arith in
-    let ended : ends_as (kind_in bytes (rest_in bytes ≡ c.ends.result =
-      let k = (kind-of c.kind_in-kind.ensures in
-    (λ i. ends_as (sym k i) (sym (rest c good) i)) ∙ sym c.ends.ensures in
-    let end : After-ends = search rules in
-    let n = names_of end in
-    let w = le-leb 1 (length (names_in (bytes n))) some in
-    let e = ended ∙ c.if-not-ends.true in
-    c.untold-then-not-ends.ensures ∙ sym (telling_by (bytes n) true true true false _ (stood n) (names n ∙ good) w e refl)
+    let s = c.args.message.now in
+    let p = c.args.cursor.at in
+    let k = c.kind_in-kind.ensures in
+    let m = c.most_names.ensures in
+    let stood = sym c.numbers_stand.ensures ∙ c.if-not-numbers_stand.false in
+    let g = names s p k m c.pass_names-passed.ensures.good_value ∙ not-false c.pass_names-passed.result.good c.if-not-passed.false in
+    let found = c.pass_names-passed.ensures.names_value (not-false c.pass_names-passed.result.good c.if-not-passed.false) in
+    let z = count s p k m found.0 in
+    let w = le-leb 1 (length (names_in (drop p s))) (let y = c.if-passed-lt1.false in omega arith) in
+    let e = ended s p k m _ found.1 c.ends.ensures ∙ c.if-not-ends.true in
+    c.untold-then-not-ends.ensures ∙ sym (telling_by (drop p s) true true true false _ stood g w e refl)
 
 pub numbers_in-requires : goal.numbers_in-requires
 numbers_in-requires c =
-    let bytes : Bytes = drop c.args.cursor.at c.args.message.now in
-    let good : c.pass_names-passed.result.good ≡ true = c.if-not-passed.false in
-    let ended : ends_as (kind_in bytes (rest_in bytes ≡ c.ends.result =
-      let k = (kind-of c.kind_in-kind.ensures in
-    (λ i. ends_as (sym k i) (sym (rest c good) i)) ∙ sym c.ends.ensures in
-    let end : After-ends = search rules in
-    let n = names_of end in
-    let h = numbers_long n.args.message.now n.args.cursor.at (stood n) in
+    let s = c.args.message.now in
+    let p = c.args.cursor.at in
+    let k = c.kind_in-kind.ensures in
+    let m = c.most_names.ensures in
+    let stood = sym c.numbers_stand.ensures ∙ c.if-not-numbers_stand.false in
+    let found = c.pass_names-passed.ensures.names_value (not-false c.pass_names-passed.result.good c.if-not-passed.false) in
     record {
-      names_place_in_bounds = (h, rest n good);
-      message_value = ended ∙ c.if-not-ends.false;
+      names_place_in_bounds = (numbers_long s p stood, rest s p k m _ found.1);
+      message_value = ended s p k m _ found.1 c.ends.ensures ∙ c.if-not-ends.false;
     }
 
 pub returns : goal.returns
 returns c =
-    let bytes : Bytes = drop c.args.cursor.at c.args.message.now in
-    let good : c.pass_names-passed.result.good ≡ true = c.if-not-passed.false in
-    let some : 1 ≤ length (names_in bytes =
-      let n = count c good in
-    let y = c.if-passed-lt1.false in
-    omega arith in
-    let ended : ends_as (kind_in bytes (rest_in bytes ≡ c.ends.result =
-      let k = (kind-of c.kind_in-kind.ensures in
-    (λ i. ends_as (sym k i) (sym (rest c good) i)) ∙ sym c.ends.ensures in
-    let end : After-ends = search rules in
-    let n = names_of end in
-    let w = le-leb 1 (length (names_in (bytes n))) some in
-    let e = ended ∙ c.if-not-ends.false in
+    let s = c.args.message.now in
+    let p = c.args.cursor.at in
+    let k = c.kind_in-kind.ensures in
+    let m = c.most_names.ensures in
+    let stood = sym c.numbers_stand.ensures ∙ c.if-not-numbers_stand.false in
+    let g = names s p k m c.pass_names-passed.ensures.good_value ∙ not-false c.pass_names-passed.result.good c.if-not-passed.false in
+    let found = c.pass_names-passed.ensures.names_value (not-false c.pass_names-passed.result.good c.if-not-passed.false) in
+    let z = count s p k m found.0 in
+    let w = le-leb 1 (length (names_in (drop p s))) (let y = c.if-passed-lt1.false in omega arith) in
+    let e = ended s p k m _ found.1 c.ends.ensures ∙ c.if-not-ends.false in
     let x = c.numbers_in.ensures in
-    let z = count n good in
     c.tell_numbers.ensures
     ∙ (λ i. ask (ok_numbers (x i)) untold (all_told (x i) (z i)))
-    ∙ sym (telling_by (bytes n) true true true true (ok_numbers (numbers_in (bytes n))) (stood n) (names n ∙ good) w e refl)
+    ∙ sym (telling_by (drop p s) true true true true (ok_numbers (numbers_in (drop p s))) stood g w e refl)

@@ -4,7 +4,6 @@ use native.Mathlib.Omega.{arith}
 use lib.ListN.{drop_of_length-le}
 use Rattle.read_messages.specs.FirstPass.{telling}
 use Rattle.read_messages.proofs.FirstPassTells.{told_nothing}
-use borrow.Author.Rules.{rules}
 use Rattle.read_messages.proofs.tell_from.Goals as goal
 
 pub returns-then-message-cursor : goal.returns-then-message-cursor

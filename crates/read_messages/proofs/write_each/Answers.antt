@@ -7,7 +7,7 @@ use Rattle.read_messages.proofs.SecondPassSlots.{Placing, placing_first, placing
 use Rattle.read_messages.proofs.write_each.Goals as goal
 
 pub loop-i-init : goal.loop-i-init
-loop-i-init c =    placing_first c.args.message.now c.args.cursor.at c.args.n c.args.out.now c.requires.0 c.requires.1
+loop-i-init c = placing_first c.args.message.now c.args.cursor.at c.args.n c.args.out.now c.requires.0 c.requires.1
 
 pub write_slot-requires : goal.write_slot-requires
 write_slot-requires c =
@@ -16,7 +16,7 @@ write_slot-requires c =
     (placing_stands v h, placing_few v h, let r = v.room in omega arith)
 
 pub after_field-next-requires : goal.after_field-next-requires
-after_field-next-requires c =    let h : c.loop-i.i < c.args.n = omega arith in name_long name_tag c.args.message.now c.loop-i.at (placing_stands c.loop-i.invariant h)
+after_field-next-requires c = let h : c.loop-i.i < c.args.n = omega arith in name_long name_tag c.args.message.now c.loop-i.at (placing_stands c.loop-i.invariant h)
 
 pub loop-i-preserved : goal.loop-i-preserved
 loop-i-preserved c =
@@ -31,7 +31,7 @@ loop-i-preserved c =
     subst (λ (p : ℕ). Placing s from n o₀ o' p (i + 1)) (sym c.after_field-next.ensures) v
 
 pub shape_of-out : goal.shape_of-out
-shape_of-out c =    c.loop-i.invariant.room
+shape_of-out c = c.loop-i.invariant.room
 
 pub returns : goal.returns
-returns c =    placing_end c.loop-i.invariant (omega arith)
+returns c = placing_end c.loop-i.invariant (omega arith)

@@ -11,7 +11,7 @@ use Rattle.write_messages.proofs.NamesIntoFields.{size_next, size_end}
 use Rattle.write_messages.proofs.names_size.Goals as goal
 
 pub loop-k-init : goal.loop-k-init
-loop-k-init c =    (refl, (laid c.args.names.now c.requires).few, omega arith, omega arith, omega arith)
+loop-k-init c = (refl, (laid c.args.names.now c.requires).few, omega arith, omega arith, omega arith)
 
 pub loop-k-preserved : goal.loop-k-preserved
 loop-k-preserved c =

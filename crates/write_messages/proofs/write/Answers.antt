@@ -3,7 +3,6 @@ use mathlib.Core.Path.{◌∙◌, sym}
 use Prim.Native.Nat.{◌<◌, ◌≤◌}
 use native.Mathlib.Omega.{arith}
 use lib.ListN.{length}
-use borrow.Author.Tests.{not-true, not-false}
 use Rattle.answers.specs.declared.Answer.TheVariants.{Accepted}
 use Rattle.answers.specs.declared.Refusal.TheVariants.{Malformed, Short}
 use Rattle.answers.proofs.Outcomes.{refused, accepted}
@@ -11,7 +10,6 @@ use Rattle.messages.specs.Messages.{message_bytes}
 use Rattle.messages.specs.Calls.{parts_given, write_outcome}
 use Rattle.messages.proofs.CallsInverse.{may_layout}
 use Rattle.messages.proofs.CallAnswers.{write_malformed, write_too_long, write_done}
-use borrow.Author.Rules.{rules}
 use Rattle.std.specs.Prelude.{◌≡◌}
 use Rattle.answers.specs.Answers.{leaves}
 use Rattle.write_messages.proofs.write.Goals as goal
@@ -21,14 +19,14 @@ returns-then-not-may_write c =
     let x = c.args.numbers in
     let s = c.args.names.now in
     let o = c.args.out.now in
-    let h = sym c.may_write_lem.ensures ∙ c.if-not-may_write.true in
+    let h = sym c.may_write.ensures ∙ c.if-not-may_write.true in
     let both : (_ ≡ (write_outcome c.args.numbers c.args.names.now (length c.args.out.now)).answer) × (_ ≡ leaves (write_outcome c.args.numbers c.args.names.now (length c.args.out.now)) c.args.out.now) =
-      refused (write_outcome x s (length o)) Malformed o (write_malformed x s (length o) h)
-    in record { value = both.0; out_after = both.1; }
+    refused (write_outcome x s (length o)) Malformed o (write_malformed x s (length o) h)
+    in record { value = both.0; out_after = both.1 }
 
 pub message_size-size-requires : goal.message_size-size-requires
 message_size-size-requires c =
-    let h = sym c.may_write_lem.ensures ∙ c.if-not-may_write.false in
+    let h = sym c.may_write.ensures ∙ c.if-not-may_write.false in
     may_layout c.args.numbers c.args.names.now h
 
 pub returns-then-out-size : goal.returns-then-out-size
@@ -36,11 +34,11 @@ returns-then-out-size c =
     let x = c.args.numbers in
     let s = c.args.names.now in
     let o = c.args.out.now in
-    let h = sym c.may_write_lem.ensures ∙ c.if-not-may_write.false in
+    let h = sym c.may_write.ensures ∙ c.if-not-may_write.false in
     let l : length o < length (message_bytes (parts_given x s)) = let z = c.message_size-size.ensures in omega arith in
     let both : (_ ≡ (write_outcome c.args.numbers c.args.names.now (length c.args.out.now)).answer) × (_ ≡ leaves (write_outcome c.args.numbers c.args.names.now (length c.args.out.now)) c.args.out.now) =
-      refused (write_outcome x s (length o)) Short o (write_too_long x s (length o) h l)
-    in record { value = both.0; out_after = both.1; }
+    refused (write_outcome x s (length o)) Short o (write_too_long x s (length o) h l)
+    in record { value = both.0; out_after = both.1 }
 
 pub returns : goal.returns
 returns c =
@@ -48,10 +46,10 @@ returns c =
     let s = c.args.names.now in
     let o = c.args.out.now in
     let w = message_bytes (parts_given x s) in
-    let h = sym c.may_write_lem.ensures ∙ c.if-not-may_write.false in
+    let h = sym c.may_write.ensures ∙ c.if-not-may_write.false in
     let z = c.message_size-size.ensures in
     let l : length w ≤ length o = omega arith in
     let e = write_done x s (length o) h l ∙ (λ i. record { answer = Accepted (sym z i); bytes = w }) in
     let both : (_ ≡ (write_outcome c.args.numbers c.args.names.now (length c.args.out.now)).answer) × (_ ≡ leaves (write_outcome c.args.numbers c.args.names.now (length c.args.out.now)) c.args.out.now) =
-      accepted (write_outcome x s (length o)) c.message_size-size.result w o c.write_fields.new.out e c.write_fields.ensures
-    in record { value = both.0; out_after = both.1; }
+    accepted (write_outcome x s (length o)) c.message_size-size.result w o c.write_fields.new.out e c.write_fields.ensures
+    in record { value = both.0; out_after = both.1 }

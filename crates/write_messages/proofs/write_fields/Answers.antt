@@ -13,7 +13,6 @@ use Rattle.messages.specs.Calls.{parts_given}
 use Rattle.messages.proofs.ReadBack.{split}
 use Rattle.messages.proofs.Longest.{message_length}
 use Rattle.write_messages.proofs.NamesIntoFields.{fields_with}
-use borrow.Author.Rules.{rules}
 use Rattle.write_messages.proofs.write_fields.Goals as goal
 
 pub write_numbers-requires : goal.write_numbers-requires

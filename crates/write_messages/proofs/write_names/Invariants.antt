@@ -1,12 +1,9 @@
 -- `write_messages::write_names` meets its contract. Assumes nothing.
-use mathlib.Core.Path.{◌≡◌, refl}
-use Prim.Native.Nat.{◌-◌, ◌/◌, ◌<◌}
-use native.Mathlib.Omega.{arith}
+use mathlib.Core.Path.{◌≡◌}
+use Prim.Native.Nat.{◌-◌, ◌/◌}
 use lib.ListN.{length}
-use Rattle.slots.specs.Tuples.{row_at}
 use Rattle.slots.specs.Slots.{slot_size}
-use Rattle.write_messages.proofs.NamesIntoFields.{Filling, filling_first, filling_fits, filling_on, filling_end}
-use borrow.Author.Rules.{rules}
+use Rattle.write_messages.proofs.NamesIntoFields.{Filling}
 use Rattle.write_messages.proofs.write_names.Given as goal
 
 abbrev pub invariant-loop-k : goal.invariant-loop-k
