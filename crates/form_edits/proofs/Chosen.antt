@@ -36,7 +36,7 @@ use Rattle.edits.specs.Edits.{placed, without}
 use Rattle.groups.specs.Groups.{Group, size, line_size, slots_in, ungrouped, alone, joined, grouped, name_after, longest, is_group}
 use Rattle.groups.specs.Forms.{group_bytes, form_bytes, groups_in, slots_of_form, group_stands}
 use Rattle.groups.proofs.Glue.{same, glue, glue_none, glue_front, glue_joins, glue_apart, run_length, ungrouped_append}
-use Rattle.groups.proofs.GroupTests.{good, have_slots}
+use Rattle.groups.proofs.GroupTests.{have_slots}
 use Rattle.groups.proofs.FormInverse.{form_none, form_append, bytes_back, kept as form_kept}
 use Rattle.groups.proofs.FormPages.{Held, held}
 use Rattle.forms.specs.declared.Block.{Block}

@@ -141,6 +141,7 @@ module _ (s slot : Bytes) (x : Row) where
         go (inr (p, f)) = insert_slots s slot so p room ∙ by f
           where
             by : FirstFails r (keeps_slot slot else BadLayout ∷ []) → outcome (insert_tests s slot) (form_pieces (placed (slot_of slot) (slots_of_form s))) room ≡ refuse r
+            by (later _ x9) = elim x9 [ ]
             by (here a b) =
                 (λ i. outcome (a i else BadLayout ∷ not (has (name_of slot) (map name_in (slots_of_form s))) else Present ∷ ltb (length (slots_of_form s)) max_slots else Full ∷ []) (form_pieces (placed (slot_of slot) (slots_of_form s))) room)
                 ∙ ap refuse b
@@ -154,6 +155,7 @@ module _ (s slot : Bytes) (x : Row) where
         go (inr (p, f)) = remove_slots s slot so p room ∙ by f
           where
             by : FirstFails r (keeps_slot slot else BadLayout ∷ []) → outcome (remove_tests s slot) (form_pieces (without (name_of slot) (slots_of_form s))) room ≡ refuse r
+            by (later _ x9) = elim x9 [ ]
             by (here a b) =
                 (λ i. outcome (a i else BadLayout ∷ has (name_of slot) (map name_in (slots_of_form s)) else Absent ∷ []) (form_pieces (without (name_of slot) (slots_of_form s))) room)
                 ∙ ap refuse b
