@@ -1,6 +1,6 @@
-use mathlib.Core.Path.{◌≡◌, refl, ◌∙◌, sym, ap}
+use mathlib.Core.Path.{refl, ◌∙◌, sym, ap}
 use mathlib.Core.List.{map}
-use Prim.Native.Nat.{◌+◌, ◌*◌, ◌-◌, ◌/◌, ◌<◌, ◌≤◌}
+use Prim.Native.Nat.{◌*◌, ◌/◌, ◌<◌}
 use native.Mathlib.Nat.{add-zero}
 use native.Mathlib.Omega.{arith}
 use lib.ListN.{length, take}
@@ -10,10 +10,9 @@ use Rattle.numbers.proofs.Put.{put_none}
 use Rattle.pages.specs.Pages.{parts, slots_of}
 use Rattle.pages.proofs.SlotBySlot.{lent, lent_length, length_slots}
 use Rattle.pages.proofs.RoundTrip.{laid}
-use Rattle.listing_text.specs.Listing.{lines_text, line_text, line_room}
+use Rattle.listing_text.specs.Listing.{lines_text, line_text}
 use Rattle.listing_text.proofs.Lines.{lines_more, deep}
-use Rattle.listing_text.proofs.Wrote.{Wrote, wrote_more, wrote_as}
-use borrow.Author.Rules.{rules}
+use Rattle.listing_text.proofs.Wrote.{wrote_more, wrote_as}
 use Rattle.listing_text.proofs.put_lines.Goals as goal
 
 pub loop-k-init : goal.loop-k-init
