@@ -16,7 +16,7 @@ use Rattle.listing_text.proofs.Wrote.{wrote_more, wrote_as}
 use Rattle.listing_text.proofs.put_lines.Goals as goal
 
 pub loop-k-init : goal.loop-k-init
-loop-k-init c =    (refl, omega arith, refl, omega arith, (sym (add-zero c.args.p), put_none c.args.out.now c.args.p))
+loop-k-init c = (refl, omega arith, refl, omega arith, (sym (add-zero c.args.p), put_none c.args.out.now c.args.p))
 
 pub put_line-q-requires : goal.put_line-q-requires
 put_line-q-requires c =
@@ -40,7 +40,7 @@ loop-k-preserved c =
     (v.0, omega arith, c.put_line-q.auto.out ∙ v.2, omega arith, wrote_as o p (sym (lines_more s n k h)) w)
 
 pub shape_of-out : goal.shape_of-out
-shape_of-out c =    c.loop-k.invariant.2
+shape_of-out c = c.loop-k.invariant.2
 
 pub returns : goal.returns
 returns c =
