@@ -1,5 +1,5 @@
 -- 01's example of a listing, its refusals and its empty input, and offsets below 0. Assumes nothing.
-use Rattle.pages.specs.Pages.{layout_over, keeps_layout, check_page}
+use Rattle.pages.specs.Pages.{layout_over, check_page}
 use mathlib.Core.Path.{◌≡◌, refl, ap}
 use mathlib.Core.List.{[], ◌∷◌, ◌++◌}
 use Prim.Native.Nat.{◌<◌}

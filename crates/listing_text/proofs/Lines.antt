@@ -1,7 +1,7 @@
 -- The lines of a page's slots, one after the other as the code lends them, and what an answer says of the listing. Assumes nothing.
 use mathlib.Core.Path.{◌≡◌, refl, ◌∙◌, sym, ap}
 use mathlib.Core.List.{List, [], ◌∷◌, ◌++◌, append_assoc, append-nil, map}
-use mathlib.Core.Bool.{Bool, true, false}
+use mathlib.Core.Bool.{true}
 use Prim.Native.Nat.{ℕ, ◌+◌, ◌*◌, ◌<◌, ◌≤◌}
 use native.Mathlib.Numerals.{add-one}
 use native.Mathlib.Omega.{arith}
@@ -17,11 +17,10 @@ use Rattle.answers.specs.declared.Refusal.{Refusal}
 use Rattle.answers.specs.declared.Refusal.TheVariants.{BadLayout, NotRising}
 use Rattle.answers.specs.declared.Answer.{Answer}
 use Rattle.answers.specs.declared.Answer.TheVariants.{Accepted, Refused}
-use Rattle.answers.specs.Answers.{Test, ◌else◌, ask, in_order, number_of}
+use Rattle.answers.specs.Answers.{◌else◌, number_of}
 use Rattle.pages.specs.Pages.{parts, slots_of, keeps_layout, rises, check_page}
 use Rattle.pages.proofs.SlotBySlot.{length_parts, lent, lent_part, lent_keeps}
 use Rattle.answers.proofs.Outcomes.{no_answer}
-use Rattle.answers.specs.Laws.{Passed}
 use Rattle.answers.proofs.Refusals.{reached}
 use Rattle.listing_text.specs.Listing.{line_text, lines_text, book_text, refused_text, answer_text, check_input, listing}
 

@@ -6,4 +6,4 @@ pub returns-then-rest-ne0 : goal.returns-then-rest-ne0
 returns-then-rest-ne0 c = simp (ne_eqb _ _ c.if-rest-ne0.true)
 
 pub returns : goal.returns
-returns c =    simp (eq-eqb _ _ c.if-rest-ne0.false) c.check_page.ensures
+returns c = simp (eq-eqb _ _ c.if-rest-ne0.false) c.check_page.ensures

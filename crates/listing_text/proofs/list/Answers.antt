@@ -7,7 +7,6 @@ use Rattle.pages.proofs.RoundTrip.{laid}
 use Rattle.listing_text.specs.Listing.{header, lines_text, refused_text, listing}
 use Rattle.listing_text.proofs.Lines.{accepted_layout, accepted_text, refused_text_lem}
 use Rattle.listing_text.proofs.Wrote.{wrote_more, wrote_as, wrote_within}
-use borrow.Author.Rules.{rules}
 use Rattle.listing_text.proofs.list.Goals as goal
 
 pub put_lines-requires : goal.put_lines-requires

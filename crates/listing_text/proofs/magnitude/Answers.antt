@@ -13,7 +13,7 @@ use Rattle.listing_text.proofs.magnitude.Goals as goal
 pub overflow_cast-result : goal.overflow_cast-result
 overflow_cast-result c =
     let at_least : (n : ℕ) × (c.args.z ≡ pos n) × (n < 2 ^ 31) =
-      let z = c.args.z in
+    let z = c.args.z in
     let f = c.ranges.z in
     let h = high z (rw (to_z-of_z w32 z f) at c.if-z-ge0.true) in
     (h.0, h.1, rw h.1 at f.sfits) in
@@ -23,7 +23,7 @@ overflow_cast-result c =
 pub overflow_sub-result : goal.overflow_sub-result
 overflow_sub-result c =
     let below : (n : ℕ) × (c.args.z ≡ negsuc n) × (to_z w32 (of_z w32 c.args.z) ≡ c.args.z) × (n < 2 ^ 31) =
-      let z = c.args.z in
+    let z = c.args.z in
     let f = c.ranges.z in
     let h = low z (rw (to_z-of_z w32 z f) at c.if-z-ge0.false) in
     (h.0, h.1, to_z-of_z w32 z f, rw h.1 at f.sfits) in
@@ -33,7 +33,7 @@ overflow_sub-result c =
 pub overflow_cast-result-2 : goal.overflow_cast-result-2
 overflow_cast-result-2 c =
     let below : (n : ℕ) × (c.args.z ≡ negsuc n) × (to_z w32 (of_z w32 c.args.z) ≡ c.args.z) × (n < 2 ^ 31) =
-      let z = c.args.z in
+    let z = c.args.z in
     let f = c.ranges.z in
     let h = low z (rw (to_z-of_z w32 z f) at c.if-z-ge0.false) in
     (h.0, h.1, to_z-of_z w32 z f, rw h.1 at f.sfits) in
@@ -43,7 +43,7 @@ overflow_cast-result-2 c =
 pub overflow_add-result : goal.overflow_add-result
 overflow_add-result c =
     let below : (n : ℕ) × (c.args.z ≡ negsuc n) × (to_z w32 (of_z w32 c.args.z) ≡ c.args.z) × (n < 2 ^ 31) =
-      let z = c.args.z in
+    let z = c.args.z in
     let f = c.ranges.z in
     let h = low z (rw (to_z-of_z w32 z f) at c.if-z-ge0.false) in
     (h.0, h.1, to_z-of_z w32 z f, rw h.1 at f.sfits) in
@@ -53,7 +53,7 @@ overflow_add-result c =
 pub returns : goal.returns
 returns c =
     let below : (n : ℕ) × (c.args.z ≡ negsuc n) × (to_z w32 (of_z w32 c.args.z) ≡ c.args.z) × (n < 2 ^ 31) =
-      let z = c.args.z in
+    let z = c.args.z in
     let f = c.ranges.z in
     let h = low z (rw (to_z-of_z w32 z f) at c.if-z-ge0.false) in
     (h.0, h.1, to_z-of_z w32 z f, rw h.1 at f.sfits) in

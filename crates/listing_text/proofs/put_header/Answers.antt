@@ -2,4 +2,4 @@
 use Rattle.listing_text.proofs.put_header.Goals as goal
 
 pub returns : goal.returns
-returns c =    c.put_bytes.ensures
+returns c = c.put_bytes.ensures

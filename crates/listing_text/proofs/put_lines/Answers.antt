@@ -1,6 +1,6 @@
-use mathlib.Core.Path.{◌≡◌, refl, ◌∙◌, sym, ap}
+use mathlib.Core.Path.{refl, ◌∙◌, sym, ap}
 use mathlib.Core.List.{map}
-use Prim.Native.Nat.{◌+◌, ◌*◌, ◌-◌, ◌/◌, ◌<◌, ◌≤◌}
+use Prim.Native.Nat.{◌*◌, ◌/◌, ◌<◌}
 use native.Mathlib.Nat.{add-zero}
 use native.Mathlib.Omega.{arith}
 use lib.ListN.{length, take}
@@ -10,14 +10,13 @@ use Rattle.numbers.proofs.Put.{put_none}
 use Rattle.pages.specs.Pages.{parts, slots_of}
 use Rattle.pages.proofs.SlotBySlot.{lent, lent_length, length_slots}
 use Rattle.pages.proofs.RoundTrip.{laid}
-use Rattle.listing_text.specs.Listing.{lines_text, line_text, line_room}
+use Rattle.listing_text.specs.Listing.{lines_text, line_text}
 use Rattle.listing_text.proofs.Lines.{lines_more, deep}
-use Rattle.listing_text.proofs.Wrote.{Wrote, wrote_more, wrote_as}
-use borrow.Author.Rules.{rules}
+use Rattle.listing_text.proofs.Wrote.{wrote_more, wrote_as}
 use Rattle.listing_text.proofs.put_lines.Goals as goal
 
 pub loop-k-init : goal.loop-k-init
-loop-k-init c =    (refl, omega arith, refl, omega arith, (sym (add-zero c.args.p), put_none c.args.out.now c.args.p))
+loop-k-init c = (refl, omega arith, refl, omega arith, (sym (add-zero c.args.p), put_none c.args.out.now c.args.p))
 
 pub put_line-q-requires : goal.put_line-q-requires
 put_line-q-requires c =
@@ -41,7 +40,7 @@ loop-k-preserved c =
     (v.0, omega arith, c.put_line-q.auto.out ∙ v.2, omega arith, wrote_as o p (sym (lines_more s n k h)) w)
 
 pub shape_of-out : goal.shape_of-out
-shape_of-out c =    c.loop-k.invariant.2
+shape_of-out c = c.loop-k.invariant.2
 
 pub returns : goal.returns
 returns c =

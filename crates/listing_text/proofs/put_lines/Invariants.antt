@@ -1,20 +1,12 @@
 -- `listing_text::put_lines` meets its contract. The loop's invariant: the lines of the first k slots are written. Assumes nothing.
-use mathlib.Core.Path.{◌≡◌, refl, ◌∙◌, sym, ap}
+use mathlib.Core.Path.{◌≡◌}
 use mathlib.Core.List.{map}
-use Prim.Native.Nat.{◌+◌, ◌*◌, ◌-◌, ◌/◌, ◌<◌, ◌≤◌}
-use native.Mathlib.Nat.{add-zero}
-use native.Mathlib.Omega.{arith}
+use Prim.Native.Nat.{◌+◌, ◌*◌, ◌-◌, ◌/◌, ◌≤◌}
 use lib.ListN.{length, take}
-use lib.Seq.{take_all}
 use Rattle.slots.specs.Slots.{slot_size, slot_of}
-use Rattle.numbers.proofs.Put.{put_none}
-use Rattle.pages.specs.Pages.{parts, slots_of}
-use Rattle.pages.proofs.SlotBySlot.{lent, lent_length, length_slots}
-use Rattle.pages.proofs.RoundTrip.{laid}
-use Rattle.listing_text.specs.Listing.{lines_text, line_text, line_room}
-use Rattle.listing_text.proofs.Lines.{lines_more, deep}
-use Rattle.listing_text.proofs.Wrote.{Wrote, wrote_more, wrote_as}
-use borrow.Author.Rules.{rules}
+use Rattle.pages.specs.Pages.{parts}
+use Rattle.listing_text.specs.Listing.{lines_text, line_room}
+use Rattle.listing_text.proofs.Wrote.{Wrote}
 use Rattle.listing_text.proofs.put_lines.Given as goal
 
 abbrev pub invariant-loop-k : goal.invariant-loop-k

@@ -10,28 +10,23 @@ use Rattle.listing_text.specs.Ascii.{ascii}
 use Rattle.listing_text.specs.Listing.{decimal, decimal_ℤ, tuple_text}
 use Rattle.listing_text.proofs.Wrote.{wrote_more, wrote_two, wrote_as}
 use borrow.Author.Rules.{rules}
-use Rattle.std.specs.Prelude.{◌≡◌, ◌+◌}
-use Rattle.numbers.specs.Bytes.{put}
-use Rattle.listing_text.specs.Listing.{tuple_room}
 use Rattle.listing_text.proofs.put_tuple.Goals as goal
 
 pub returns : goal.returns
 unfolding tuple_text
 returns c =
- (
-      let o = c.args.out.now in
-      let p = c.args.p in
-      let h : p ≤ length o = omega arith in
-      let t = c.args.t in
-      let w₁ = decimal t.position ++ ascii "." in
-      let w₂ = w₁ ++ decimal t.node ++ ascii "." in
-      let w₃ = w₂ ++ decimal t.sequence ++ ascii "." in
-      let e₂ = wrote_two o p h w₁ (decimal t.node) (ascii ".") c.put_number-node.ensures.value c.put_number-sequence.ensures.value in
-      let e₃ = wrote_two o p h w₂ (decimal t.sequence) (ascii ".") e₂ c.put_number-offset.ensures.value in
-      let e₄ = wrote_more o p h w₃ _ e₃ c.put_offset.ensures.value in
-      let z = to_z-of_z w32 t.offset (search rules) in
-    let both : ((_ ≡ c.args.p + length (tuple_text c.args.t)) × (_ ≡ put c.args.out.now c.args.p (tuple_text c.args.t))) × (_ ≤ c.args.p + tuple_room) =
-      wrote_as o p (ap (λ (k : _). w₃ ++ decimal_ℤ k) z) e₄,
-  omega arith,
-)
-    in record { value = both.0; upper_bound = both.1; }
+    let o = c.args.out.now in
+    let p = c.args.p in
+    let h : p ≤ length o = omega arith in
+    let t = c.args.t in
+    let w₁ = decimal t.position ++ ascii "." in
+    let w₂ = w₁ ++ decimal t.node ++ ascii "." in
+    let w₃ = w₂ ++ decimal t.sequence ++ ascii "." in
+    let e₂ = wrote_two o p h w₁ (decimal t.node) (ascii ".") c.put_number-node.ensures.value c.put_number-sequence.ensures.value in
+    let e₃ = wrote_two o p h w₂ (decimal t.sequence) (ascii ".") e₂ c.put_number-offset.ensures.value in
+    let e₄ = wrote_more o p h w₃ _ e₃ c.put_offset.ensures.value in
+    let z = to_z-of_z w32 t.offset (search rules) in
+    record {
+      value = wrote_as o p (ap (λ (k : _). w₃ ++ decimal_ℤ k) z) e₄;
+      upper_bound = omega arith;
+    }

@@ -1,0 +1,5 @@
+-- The measure of `put_decimal`, which calls itself, is n: n / 10 falls below it.
+use Rattle.listing_text.proofs.+put_decimal.Given as goal
+
+abbrev pub decreases-put_decimal : goal.decreases-put_decimal
+decreases-put_decimal l = l.n
