@@ -101,7 +101,7 @@ returns-then-out-table c =
     let count = c.args.count in
     let room = length c.args.out.now in
     let l = sym (listed_all table author parent count) ∙ sym c.is_listed.ensures in
-    let short = short_refused table parent author count room kept c.if-n-parent.false c.if-author-lt1.false counted (l ∙ c.if-is_listed.false) c.if-n-ge-ENTRIES.false in
+    let short = short_refused table parent author count room kept c.if-n-parent.false c.if-author-lt1.false counted (l ∙ c.if-is_listed.false) (omega arith) in
     let both : (_ ≡ (add_outcome c.args.table.now c.args.parent c.args.author c.args.count (length c.args.out.now)).answer) × (_ ≡ leaves (add_outcome c.args.table.now c.args.parent c.args.author c.args.count (length c.args.out.now)) c.args.out.now) =
     refused _ _ _ (short c.if-out-table.true)
     in record { value = both.0; out_after = both.1 }
@@ -116,7 +116,7 @@ returns c =
     let count = c.args.count in
     let room = length c.args.out.now in
     let l = sym (listed_all table author parent count) ∙ sym c.is_listed.ensures in
-    let all = done table parent author count room kept c.if-n-parent.false c.if-author-lt1.false counted (l ∙ c.if-is_listed.false) c.if-n-ge-ENTRIES.false in
+    let all = done table parent author count room kept c.if-n-parent.false c.if-author-lt1.false counted (l ∙ c.if-is_listed.false) (omega arith) in
     let outcome = all (λ i. (c.type_inv.table i).fits) c.if-out-table.false in
     let o = c.args.out.now in
     let e = entry_bytes (entry_by author parent count) in

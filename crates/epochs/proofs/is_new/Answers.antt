@@ -28,7 +28,7 @@ returns-then-tops-group c =
     let kept = under_raised t i tops c.requires.2 g a in_group above in
     record {
       value = ap not (sym (new_pair t i tops c.requires.2 (entry_at t i) inside over));
-      tops_len = (length-set tops g c.sequence_of-sequence.result ∙ c.requires.1, subst (λ (s : ℕ). Under t (i + 1) (set tops g s)) (sym q) kept);
+      tops_len = (length-set tops g _ ∙ c.requires.1, subst (λ (s : ℕ). Under t (i + 1) (set tops g s)) (sym q) kept);
     }
 
 pub returns-then-is_listed : goal.returns-then-is_listed
