@@ -3,7 +3,6 @@
 
 #![tactic(auto)]
 
-
 // The cases of 01's table "Name x | Becomes", in its order, those that say N(k) with their k.
 #[derive(Clone, Copy)]
 pub enum Case {

@@ -1,5 +1,5 @@
 -- A page's bytes and the list of its slots are inverse. proofs/PageLaws.antt has that all of it holds.
-use Rattle.std.specs.Prelude.{ℕ, ◌*◌, ◌≤◌, ◌≡◌, true, length}
+use Rattle.std.specs.Prelude.{◌*◌, ◌≤◌, ◌≡◌, true, length}
 use mathlib.Core.List.{List, map, flatten}
 use Rattle.names.specs.Ordering.{Rising}
 use Rattle.numbers.specs.Lists.{every}

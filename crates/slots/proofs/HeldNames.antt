@@ -1,6 +1,6 @@
 -- A name that the code holds by value, written as bytes and read back (`held_back`): its offsets are words (`held_words`), which is what
 -- owning the value tells of each tuple. Assumes nothing.
-use Rattle.std.proofs.Common.{◌≡◌, ℕ, zero, suc, ◌+◌, List, [], ◌∷◌, map, length, take, drop}
+use Rattle.std.proofs.Common.{◌≡◌, ℕ, zero, suc, ◌+◌, List, [], ◌∷◌, length, take, drop}
 use denote.Array.{each}
 use denote.Shadow.{shadow}
 use mir.Val.{Val}

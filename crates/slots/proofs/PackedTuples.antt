@@ -2,14 +2,14 @@
 -- (`held_at`, `front_at`) and by value (`held_by`). What is left of a comparison of two rows in bytes (`left_all`, `left_same`, `left_less`,
 -- `left_more`, `left_at`, `left_not`, `left_differ`), after equal tuples (`alike_compare`, `left_alike`), and of one with a tuple
 -- (`first_tuple`). Assumes nothing.
-use Rattle.std.proofs.Common.{◌≡◌, ℕ, ◌+◌, ◌-◌, ◌*◌, ◌%◌, ◌<◌, ◌≤◌, true, false, [], ◌∷◌, ◌++◌, length, get_or, drop, sym, refl, ap, ◌∙◌, inl, inr, arith, take_all}
+use Rattle.std.proofs.Common.{◌≡◌, ℕ, ◌+◌, ◌-◌, ◌*◌, ◌%◌, ◌<◌, ◌≤◌, true, false, [], ◌∷◌, ◌++◌, length, get_or, drop, sym, refl, ap, ◌∙◌, arith, take_all}
 use native.Mathlib.Decide.{dec_le, dec_lt}
 use Rattle.names.specs.declared.Tuple.{Tuple}
 use Rattle.names.specs.declared.Order.{Order}
 use Rattle.names.specs.declared.Order.TheVariants.{Less, Same, More}
 use Rattle.names.specs.Ordering.{Row, compare_ℕ, compare_ℤ, then, compare_tuples, compare_rows, is_less, is_same}
 use Rattle.names.specs.Names.{m}
-use Rattle.names.proofs.Laws.{ℕ_less, ℕ_same, ℕ_more, ℕ_cases, tuple_same, same_tuple}
+use Rattle.names.proofs.Laws.{ℕ_less, ℕ_more, tuple_same, same_tuple}
 use Rattle.names.proofs.Digits.{compare_by, digits}
 use Rattle.names.proofs.CompareTuples.{left, left_same as both_ended, left_less as first_ended, left_more as second_ended, left_at as turn, to_one}
 use Rattle.numbers.specs.Bytes.{Bytes, Octets, at32, at64, signed, unsigned}

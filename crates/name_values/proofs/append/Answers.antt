@@ -1,12 +1,11 @@
 use mathlib.Core.List.{[], ◌∷◌, ◌++◌, append-nil}
 use lib.ListN.{length, take, get_or, length-append, length-take}
-use Rattle.names.specs.Names.{limit, row_of, value_of, m}
-use Prim.Native.Nat.{ℕ, min, ◌+◌, ◌-◌, ◌<◌, ◌≤◌}
+use Rattle.names.specs.Names.{row_of, value_of, m}
+use Prim.Native.Nat.{ℕ, min, ◌<◌, ◌≤◌}
 use Rattle.names.specs.Ordering.{Row}
 use native.Mathlib.Omega.{arith}
 use mathlib.Core.Path.{◌≡◌, refl, sym, ap, ◌∙◌}
 use lib.Seq.{length-take-le}
-use borrow.Author.Rules.{rules}
 use Rattle.name_values.proofs.JoinedRows.{value_of_lem, row_of_lem, take_more}
 use Rattle.numbers.proofs.Lists.{take_min}
 use Rattle.name_values.proofs.append.Goals as goal

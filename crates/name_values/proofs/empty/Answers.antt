@@ -1,6 +1,5 @@
 -- `name_values::empty` meets its contract. Assumes nothing.
 use lib.ListN.{replicate}
-use borrow.Author.Rules.{rules}
 use Rattle.names.specs.Names.{limit}
 use Rattle.name_values.proofs.empty.Goals as goal
 

@@ -8,7 +8,6 @@ use Rattle.names.specs.declared.Name.{Name}
 use Rattle.names.specs.Ordering.{Row}
 use Rattle.names.specs.Names.{limit, row_of, value_of}
 use Rattle.name_values.proofs.JoinedRows.{value_of_lem, row_of_lem, joined_fits, joined_all, joined_deep, joined_none}
-use borrow.Author.Rules.{rules}
 use Rattle.name_values.proofs.join_by.Goals as goal
 
 -- a on no row, and t on that

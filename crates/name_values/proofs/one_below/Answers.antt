@@ -7,11 +7,10 @@ use lib.Signed.{non_neg}
 use Rattle.names.specs.declared.Tuple.{Tuple}
 use Rattle.names.specs.Names.{lowered, m}
 use Rattle.name_values.proofs.OneBelowByValue.{name_long, last_from_zero, below_stored}
-use borrow.Author.Rules.{rules}
 use Rattle.name_values.proofs.one_below.Goals as goal
 
 pub overflow_sub-n : goal.overflow_sub-n
-overflow_sub-n c =    let a = c.args.a in omega (arith, name_long a.tuples a.depth m c.requires)
+overflow_sub-n c = let a = c.args.a in omega (arith, name_long a.tuples a.depth m c.requires)
 
 pub one_lower-requires : goal.one_lower-requires
 one_lower-requires c =
@@ -19,7 +18,7 @@ one_lower-requires c =
     ap (λ (k : ℕ). non_neg (get_or a.tuples (k - 1) m).offset) c.tuples_in-n.ensures.0 ∙ last_from_zero a.tuples a.depth m c.requires
 
 pub overflow_sub-tuples : goal.overflow_sub-tuples
-overflow_sub-tuples c =    let a = c.args.a in omega (arith, name_long a.tuples a.depth m c.requires)
+overflow_sub-tuples c = let a = c.args.a in omega (arith, name_long a.tuples a.depth m c.requires)
 
 pub returns : goal.returns
 returns c =

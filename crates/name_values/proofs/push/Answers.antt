@@ -4,17 +4,16 @@ use native.Mathlib.Omega.{arith}
 use mathlib.Core.Path.{ap}
 use Rattle.names.specs.Names.{row_of}
 use Rattle.name_values.proofs.JoinedRows.{value_more}
-use borrow.Author.Rules.{rules}
 use Rattle.name_values.proofs.push.Goals as goal
 
 pub offset_bounds-tuples-n : goal.offset_bounds-tuples-n
-offset_bounds-tuples-n c =    let d = ap (λ (y : Name). y.depth) c.requires.0 in omega arith
+offset_bounds-tuples-n c = let d = ap (λ (y : Name). y.depth) c.requires.0 in omega arith
 
 pub bounds-tuples-n : goal.bounds-tuples-n
-bounds-tuples-n c =    let d = ap (λ (y : Name). y.depth) c.requires.0 in omega arith
+bounds-tuples-n c = let d = ap (λ (y : Name). y.depth) c.requires.0 in omega arith
 
 pub overflow_add-result : goal.overflow_add-result
-overflow_add-result c =    let d = ap (λ (y : Name). y.depth) c.requires.0 in omega arith
+overflow_add-result c = let d = ap (λ (y : Name). y.depth) c.requires.0 in omega arith
 
 pub returns : goal.returns
-returns c =    value_more (row_of c.args.a) c.args.t c.requires.0 c.requires.1
+returns c = value_more (row_of c.args.a) c.args.t c.requires.0 c.requires.1

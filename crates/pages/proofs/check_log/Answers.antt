@@ -3,13 +3,11 @@ use mathlib.Core.Path.{◌∙◌, sym, ap}
 use Rattle.answers.specs.declared.Answer.TheVariants.{Accepted}
 use Rattle.pages.specs.Pages.{check_log}
 use Rattle.pages.proofs.SlotBySlot.{length_slots}
-use borrow.Author.Tests.{not-true, not-false}
-use borrow.Author.Rules.{rules}
 use Rattle.pages.proofs.check_log.Goals as goal
 
 pub returns-then-not-log_ok : goal.returns-then-not-log_ok
 unfolding check_log
-returns-then-not-log_ok c =    simp (sym c.log_ok.ensures ∙ c.if-not-log_ok.true)
+returns-then-not-log_ok c = simp (sym c.log_ok.ensures ∙ c.if-not-log_ok.true)
 
 pub returns : goal.returns
 unfolding check_log

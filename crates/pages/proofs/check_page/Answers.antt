@@ -1,10 +1,9 @@
 -- `pages::check_page` meets its contract. Assumes nothing.
-use mathlib.Core.Path.{◌∙◌, sym, ap}
+use mathlib.Core.Path.{sym, ap}
 use Rattle.answers.specs.declared.Answer.TheVariants.{Accepted}
 use Rattle.slots.proofs.LookedAt.{tells_broken, tells_falling, tells_rising}
 use Rattle.pages.specs.Pages.{keeps_layout, rises, check_page}
 use Rattle.pages.proofs.SlotBySlot.{length_slots}
-use borrow.Author.Rules.{rules}
 use Rattle.pages.proofs.check_page.Goals as goal
 
 pub returns-in-Broken : goal.returns-in-Broken

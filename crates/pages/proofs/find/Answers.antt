@@ -1,11 +1,8 @@
 use mathlib.Core.Path.{refl, ◌∙◌, sym}
-use mathlib.Core.List.{[]}
-use Prim.Native.Nat.{ℕ, ◌+◌, ◌*◌, ◌-◌, ◌/◌, ◌<◌, ◌≤◌}
+use Prim.Native.Nat.{◌+◌, ◌*◌, ◌-◌, ◌/◌, ◌<◌}
 use native.Mathlib.Omega.{arith}
 use native.Mathlib.Nat.{not-suc-le-zero}
-use borrow.Author.Rules.{rules}
-use lib.ListN.{length, get_or}
-use Rattle.names.specs.Ordering.{◌<ⁿ◌}
+use lib.ListN.{length}
 use Rattle.names.proofs.Laws.{rising_Rising, less_row, same_row, more_row}
 use Rattle.slots.specs.Slots.{slot_size, name_of}
 use Rattle.pages.specs.Pages.{names_of}
@@ -14,7 +11,7 @@ use Rattle.pages.proofs.FindByHalving.{found, missed, to_right, to_left}
 use Rattle.pages.proofs.find.Goals as goal
 
 pub loop-low-init : goal.loop-low-init
-loop-low-init c =    (omega arith, omega arith, λ i h. absurd (not-suc-le-zero h), λ i h k. absurd (omega (arith, length_names c.args.page.now (length c.args.page.now / slot_size))))
+loop-low-init c = (omega arith, omega arith, λ i h. absurd (not-suc-le-zero h), λ i h k. absurd (omega (arith, length_names c.args.page.now (length c.args.page.now / slot_size))))
 
 pub compare_slots-requires : goal.compare_slots-requires
 compare_slots-requires c =

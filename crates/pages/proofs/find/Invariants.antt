@@ -1,17 +1,10 @@
 -- `pages::find` meets its contract. Assumes nothing.
-use mathlib.Core.Path.{refl, ◌∙◌, sym}
 use mathlib.Core.List.{[]}
-use Prim.Native.Nat.{ℕ, ◌+◌, ◌*◌, ◌-◌, ◌/◌, ◌<◌, ◌≤◌}
-use native.Mathlib.Omega.{arith}
-use native.Mathlib.Nat.{not-suc-le-zero}
-use borrow.Author.Rules.{rules}
+use Prim.Native.Nat.{ℕ, ◌-◌, ◌/◌, ◌<◌, ◌≤◌}
 use lib.ListN.{length, get_or}
 use Rattle.names.specs.Ordering.{◌<ⁿ◌}
-use Rattle.names.proofs.Laws.{rising_Rising, less_row, same_row, more_row}
 use Rattle.slots.specs.Slots.{slot_size, name_of}
 use Rattle.pages.specs.Pages.{names_of}
-use Rattle.pages.proofs.SlotBySlot.{lent_length, lent_name, length_names}
-use Rattle.pages.proofs.FindByHalving.{found, missed, to_right, to_left}
 use Rattle.pages.proofs.find.Given as goal
 
 abbrev pub invariant-loop-low : goal.invariant-loop-low

@@ -1,17 +1,11 @@
 -- `pages::lines_are_zero` meets its contract. Assumes nothing.
-use mathlib.Core.Path.{◌≡◌, refl, ◌∙◌, sym}
-use mathlib.Core.Bool.{Bool}
+use mathlib.Core.Path.{◌≡◌}
 use Prim.Native.Nat.{◌-◌, ◌/◌, ◌≤◌}
-use native.Mathlib.Omega.{arith}
-use borrow.Author.Tests.{eq-eqb, ne_eqb}
 use lib.ListN.{length, drop}
-use Rattle.numbers.specs.Bytes.{Bytes, is_zero}
+use Rattle.numbers.specs.Bytes.{is_zero}
 use Rattle.numbers.specs.Lists.{every}
-use Rattle.slots.specs.Slots.{slot_size, slot_of, line_of}
-use Rattle.pages.specs.Pages.{parts, line_is_zero}
-use Rattle.pages.proofs.SlotBySlot.{lent_length, part_at, part_end}
-use Rattle.numbers.proofs.Every.{every_map}
-use borrow.Author.Rules.{rules}
+use Rattle.slots.specs.Slots.{slot_size, line_of}
+use Rattle.pages.specs.Pages.{parts}
 use Rattle.pages.proofs.lines_are_zero.Given as goal
 
 abbrev pub invariant-loop-k : goal.invariant-loop-k

@@ -1,5 +1,5 @@
 -- `pages::log_ok` meets its contract. Assumes nothing.
-use mathlib.Core.Path.{◌≡◌, ◌∙◌, sym}
+use mathlib.Core.Path.{◌≡◌}
 use mathlib.Core.Bool.{true, false}
 use native.Mathlib.Omega.{arith}
 use borrow.Author.Tests.{le-leb, lt-leb}
@@ -8,7 +8,6 @@ use lib.Dec.{leb}
 use Rattle.slots.proofs.LookedAt.{tells_broken, tells_falling, tells_rising}
 use Rattle.pages.specs.Pages.{keeps_layout, rises, is_log, slots_of}
 use Rattle.pages.proofs.SlotBySlot.{length_slots}
-use borrow.Author.Rules.{rules}
 use Rattle.pages.proofs.log_ok.Goals as goal
 
 pub returns-in-Broken : goal.returns-in-Broken

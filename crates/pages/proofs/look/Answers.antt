@@ -1,5 +1,4 @@
 -- `pages::look` meets its contract. Assumes nothing.
-use native.Mathlib.Omega.{arith}
 use Rattle.pages.proofs.look.Goals as goal
 
 pub returns : goal.returns

@@ -1,26 +1,23 @@
-use mathlib.Core.Path.{◌≡◌, refl, ◌∙◌, sym, ap}
+use mathlib.Core.Path.{refl, ◌∙◌, sym, ap}
 use mathlib.Core.Bool.{true}
-use mathlib.Core.Logic.{⊎_elim}
-use Prim.Native.Nat.{◌+◌, ◌-◌, ◌*◌, ◌≤◌}
+use Prim.Native.Nat.{◌+◌, ◌*◌, ◌≤◌}
 use native.Mathlib.Omega.{arith}
 use lib.ListN.{length, drop}
 use Rattle.names.specs.Ordering.{Row}
 use Rattle.names.specs.Names.{is_name}
-use Rattle.numbers.specs.Lists.{every}
 use Rattle.slots.specs.Tuples.{tuples_at, tuple_size}
-use Rattle.slots.specs.Slots.{head_size, size_over, keeps_over}
-use Rattle.slots.specs.Looks.{leads, seen}
+use Rattle.slots.specs.Slots.{head_size, size_over}
+use Rattle.slots.specs.Looks.{seen}
 use Rattle.slots.proofs.NameTests.{leads_name, name_over_lem}
 use Rattle.slots.proofs.LookedAt.{keeps_name}
-use Rattle.pages.specs.Pages.{parts_over, rises_over}
+use Rattle.pages.specs.Pages.{parts_over}
 use Rattle.pages.proofs.SlotBySlot.{lent_over, lent_length_over}
 use Rattle.pages.proofs.LookedAlong.{told, told_first, told_turn, told_last, GoesOn, falls, climbs}
-use borrow.Author.Rules.{rules}
 use Rattle.pages.proofs.look_along.Goals as goal
 use Rattle.pages.proofs.look_along.Goals.{in-NotRising, in-Rising}
 
 pub loop-at-init : goal.loop-at-init
-loop-at-init c =    (omega arith, omega arith, omega arith, refl, told_first c.args.room c.args.page.now)
+loop-at-init c = (omega arith, omega arith, omega arith, refl, told_first c.args.room c.args.page.now)
 
 pub look_after-requires : goal.look_after-requires
 look_after-requires c =
@@ -55,8 +52,8 @@ loop-at-preserved c =
     let h = c.loop-at-test.true in
     let on : GoesOn room s at b a h r =
     elim c.match-look_after.branch [
-      in-NotRising w ↦ falls room s at b a h r w.in-NotRising.ensures w.rising-is
-    | in-Rising w ↦ climbs room s at b a h r w.in-Rising.ensures w.rising-is
+      | in-NotRising w ↦ falls room s at b a h r w.in-NotRising.ensures w.rising-is
+      | in-Rising w ↦ climbs room s at b a h r w.in-Rising.ensures w.rising-is
     ] in
     let n = c.depth_over-n.result in
     let name = name_over_lem room (lent_over room s at) n c.depth_over-n.ensures in

@@ -1,22 +1,15 @@
 -- `pages::look_along` meets its contract. Assumes nothing.
-use mathlib.Core.Path.{◌≡◌, refl, ◌∙◌, sym, ap}
+use mathlib.Core.Path.{◌≡◌}
 use mathlib.Core.Bool.{true}
-use mathlib.Core.Logic.{⊎_elim}
-use Prim.Native.Nat.{◌+◌, ◌-◌, ◌*◌, ◌≤◌}
-use native.Mathlib.Omega.{arith}
+use Prim.Native.Nat.{◌-◌, ◌≤◌}
 use lib.ListN.{length, drop}
-use Rattle.names.specs.Ordering.{Row}
-use Rattle.names.specs.Names.{is_name}
 use Rattle.numbers.specs.Lists.{every}
-use Rattle.slots.specs.Tuples.{tuples_at, tuple_size}
-use Rattle.slots.specs.Slots.{head_size, size_over, keeps_over}
+use Rattle.slots.specs.Tuples.{tuples_at}
+use Rattle.slots.specs.Slots.{head_size, keeps_over}
 use Rattle.slots.specs.Looks.{leads, seen}
-use Rattle.slots.proofs.NameTests.{leads_name, name_over_lem}
-use Rattle.slots.proofs.LookedAt.{keeps_name}
 use Rattle.pages.specs.Pages.{parts_over, rises_over}
-use Rattle.pages.proofs.SlotBySlot.{lent_over, lent_length_over}
-use Rattle.pages.proofs.LookedAlong.{told, told_first, told_turn, told_last, GoesOn, falls, climbs}
-use borrow.Author.Rules.{rules}
+use Rattle.pages.proofs.SlotBySlot.{lent_over}
+use Rattle.pages.proofs.LookedAlong.{told}
 use Rattle.pages.proofs.look_along.Given as goal
 
 abbrev pub invariant-loop-at : goal.invariant-loop-at

@@ -1,7 +1,6 @@
 -- `pages::look_over` meets its contract. Assumes nothing.
 use borrow.Author.Tests.{eq-eqb, ne_eqb, le-leb, lt-leb}
 use Rattle.pages.specs.Pages.{layout_over}
-use borrow.Author.Rules.{rules}
 use Rattle.pages.proofs.look_over.Goals as goal
 
 pub returns-then-page-size-ne0 : goal.returns-then-page-size-ne0
@@ -10,8 +9,8 @@ returns-then-page-size-ne0 c = simp (ne_eqb _ _ c.if-page-size-ne0.true)
 
 pub returns-then-page-size-gt-SLOTS : goal.returns-then-page-size-gt-SLOTS
 unfolding layout_over
-returns-then-page-size-gt-SLOTS c =    simp (eq-eqb _ _ c.if-page-size-ne0.false, lt-leb _ _ c.if-page-size-gt-SLOTS.true)
+returns-then-page-size-gt-SLOTS c = simp (eq-eqb _ _ c.if-page-size-ne0.false, lt-leb _ _ c.if-page-size-gt-SLOTS.true)
 
 pub returns : goal.returns
 unfolding layout_over
-returns c =    simp (eq-eqb _ _ c.if-page-size-ne0.false, le-leb _ _ c.if-page-size-gt-SLOTS.false) c.look_along.ensures
+returns c = simp (eq-eqb _ _ c.if-page-size-ne0.false, le-leb _ _ c.if-page-size-gt-SLOTS.false) c.look_along.ensures

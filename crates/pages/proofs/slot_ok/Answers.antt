@@ -6,7 +6,6 @@ use Rattle.slots.specs.Slots.{keeps_over, keeps_slot}
 use Rattle.slots.proofs.LookedAt.{tells_broken, tells_falling, tells_rising}
 use Rattle.pages.specs.Pages.{parts_of, rises}
 use Rattle.pages.proofs.SlotBySlot.{one_part}
-use borrow.Author.Rules.{rules}
 use Rattle.pages.proofs.slot_ok.Goals as goal
 
 pub returns-then-slot-ne-SLOT : goal.returns-then-slot-ne-SLOT

@@ -7,7 +7,6 @@ use lib.ListN.{length, get_or-eq_default}
 use Rattle.slots.specs.Slots.{slot_size}
 use Rattle.pages.specs.Pages.{names_of}
 use Rattle.pages.proofs.SlotBySlot.{lent_tuples, length_names}
-use borrow.Author.Rules.{rules}
 use Rattle.pages.proofs.span_of.Goals as goal
 
 pub returns-then-k-page : goal.returns-then-k-page

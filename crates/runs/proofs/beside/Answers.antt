@@ -4,7 +4,6 @@ use native.Mathlib.Omega.{arith}
 use Rattle.slots.specs.Tuples.{row_at}
 use Rattle.runs.proofs.RunNames.{last_tuple, name_offset}
 use Rattle.runs.proofs.BesideInBytes.{beside_short, beside_long}
-use borrow.Author.Rules.{rules}
 use Rattle.runs.proofs.beside.Goals as goal
 
 pub returns-in-Less : goal.returns-in-Less

@@ -28,7 +28,7 @@ unfolding tuple_at
 offset_at s p {z = z} f e g = to_z-of_z w32 z f ∙ e ∙ ap signed g
 
 pub beside_offsets-requires : goal.beside_offsets-requires
-beside_offsets-requires c =    (c.requires.2.0, offset_at c.args.a.now c.args.p (search rules) c.to_signed.ensures c.read_u32.ensures ∙ c.requires.2.1)
+beside_offsets-requires c = (c.requires.2.0, offset_at c.args.a.now c.args.p (search rules) c.to_signed.ensures c.read_u32.ensures ∙ c.requires.2.1)
 
 pub returns-then-x-y : goal.returns-then-x-y
 returns-then-x-y c =

@@ -1,6 +1,5 @@
 -- `runs::copy_onward` meets its contract. Assumes nothing.
 use Rattle.runs.proofs.WrittenRuns.{row_onward}
-use borrow.Author.Rules.{rules}
 use Rattle.runs.proofs.copy_onward.Goals as goal
 
 pub returns : goal.returns

@@ -3,7 +3,6 @@ use mathlib.Core.Path.{sym}
 use Rattle.slots.specs.Tuples.{row_at}
 use Rattle.slots.proofs.TuplesInBytes.{length_tuples_at}
 use Rattle.runs.proofs.WrittenRuns.{slot_onward, slot_copied}
-use borrow.Author.Rules.{rules}
 use Rattle.runs.proofs.copy_slot_onward.Goals as goal
 
 pub returns : goal.returns

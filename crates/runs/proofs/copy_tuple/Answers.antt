@@ -7,7 +7,6 @@ use lib.ListN.{length}
 use Rattle.numbers.specs.Bytes.{Octets, bytes32, put}
 use Rattle.numbers.proofs.Put.{put_more}
 use Rattle.slots.proofs.CopiedTuples.{three_words}
-use borrow.Author.Rules.{rules}
 use Rattle.runs.proofs.copy_tuple.Goals as goal
 
 pub returns : goal.returns

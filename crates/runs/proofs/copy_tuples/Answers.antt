@@ -1,16 +1,14 @@
 use mathlib.Core.Path.{◌≡◌, refl}
-use Prim.Native.Nat.{◌-◌, ◌*◌, ◌%◌, ◌≤◌}
+use Prim.Native.Nat.{◌*◌}
 use native.Mathlib.Omega.{arith}
-use lib.ListN.{length, take, drop}
-use Rattle.numbers.specs.Bytes.{Octets, put}
+use Rattle.numbers.specs.Bytes.{Octets}
 use Rattle.numbers.proofs.Put.{put_none}
 use Rattle.slots.specs.Tuples.{tuple_size}
 use Rattle.slots.proofs.CopiedTuples.{copied_on, copied_row}
-use borrow.Author.Rules.{rules}
 use Rattle.runs.proofs.copy_tuples.Goals as goal
 
 pub loop-i-init : goal.loop-i-init
-loop-i-init c =    (omega arith, refl, refl, put_none c.args.out.now c.args.p)
+loop-i-init c = (omega arith, refl, refl, put_none c.args.out.now c.args.p)
 
 pub copy_tuple-requires : goal.copy_tuple-requires
 copy_tuple-requires c =

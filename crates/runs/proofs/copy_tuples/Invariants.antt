@@ -1,13 +1,9 @@
 -- `runs::copy_tuples` meets its contract. Assumes nothing.
-use mathlib.Core.Path.{◌≡◌, refl}
+use mathlib.Core.Path.{◌≡◌}
 use Prim.Native.Nat.{◌-◌, ◌*◌, ◌%◌, ◌≤◌}
-use native.Mathlib.Omega.{arith}
 use lib.ListN.{length, take, drop}
-use Rattle.numbers.specs.Bytes.{Octets, put}
-use Rattle.numbers.proofs.Put.{put_none}
+use Rattle.numbers.specs.Bytes.{put}
 use Rattle.slots.specs.Tuples.{tuple_size}
-use Rattle.slots.proofs.CopiedTuples.{copied_on, copied_row}
-use borrow.Author.Rules.{rules}
 use Rattle.runs.proofs.copy_tuples.Given as goal
 
 -- i bytes stand, those of whole tuples

@@ -10,7 +10,6 @@ use Rattle.slots.specs.Tuples.{tuples_at, tuple_size}
 use Rattle.runs.specs.Beside.{same_but_last}
 use Rattle.runs.proofs.RunNames.{name_at, name_count}
 use Rattle.runs.proofs.SameButLast.{is_onward_at}
-use borrow.Author.Rules.{rules}
 use Rattle.runs.proofs.is_onward.Goals as goal
 
 pub overflow_sub-last : goal.overflow_sub-last

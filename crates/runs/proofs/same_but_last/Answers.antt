@@ -8,7 +8,6 @@ use lib.Dec.{eqb}
 use Rattle.names.specs.Ordering.{compare_rows, is_same}
 use Rattle.slots.specs.Tuples.{tuples_at}
 use Rattle.runs.proofs.SameButLast.{same_at}
-use borrow.Author.Rules.{rules}
 use Rattle.runs.proofs.same_but_last.Goals as goal
 
 pub returns-then-read_u64 : goal.returns-then-read_u64

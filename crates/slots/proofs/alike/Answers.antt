@@ -1,5 +1,4 @@
-use Rattle.std.proofs.Common.{◌≡◌, ◌-◌, ◌≤◌, sym, refl, ◌∙◌, arith, rules}
-use Rattle.slots.specs.Tuples.{tuples_at}
+use Rattle.std.proofs.Common.{sym, refl, ◌∙◌, arith}
 use Rattle.slots.proofs.PackedTuples.{alike_more}
 use Rattle.slots.proofs.alike.Goals as goal
 

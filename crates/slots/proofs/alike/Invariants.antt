@@ -1,7 +1,6 @@
 -- `slots::alike` meets its contract. Assumes nothing.
-use Rattle.std.proofs.Common.{◌≡◌, ◌-◌, ◌≤◌, sym, refl, ◌∙◌, arith, rules}
+use Rattle.std.proofs.Common.{◌≡◌, ◌-◌, ◌≤◌}
 use Rattle.slots.specs.Tuples.{tuples_at}
-use Rattle.slots.proofs.PackedTuples.{alike_more}
 use Rattle.slots.proofs.alike.Given as goal
 
 abbrev pub invariant-loop-i : goal.invariant-loop-i

@@ -1,5 +1,5 @@
 -- `slots::compare_parts` meets its contract. Assumes nothing.
-use Rattle.std.proofs.Common.{sym, ap, ◌∙◌, arith, rules}
+use Rattle.std.proofs.Common.{sym, ap, ◌∙◌, arith}
 use Rattle.names.specs.declared.Order.{Order}
 use Rattle.names.specs.Ordering.{compare_ℕ, then}
 use Rattle.names.proofs.Laws.{ℕ_less, ℕ_same, ℕ_more}

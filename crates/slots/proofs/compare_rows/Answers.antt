@@ -1,7 +1,5 @@
-use Rattle.std.proofs.Common.{◌≡◌, ◌-◌, ◌≤◌, ◌∙◌, arith, rules}
-use Rattle.names.specs.Ordering.{compare_rows}
-use Rattle.slots.specs.Tuples.{tuples_at}
-use Rattle.slots.proofs.PackedTuples.{left_from, left_all, left_same, left_less, left_more, left_at}
+use Rattle.std.proofs.Common.{◌∙◌, arith}
+use Rattle.slots.proofs.PackedTuples.{left_all, left_same, left_less, left_more, left_at}
 use Rattle.slots.proofs.compare_rows.Goals as goal
 
 pub loop-i-init : goal.loop-i-init
@@ -18,16 +16,16 @@ loop-i-preserved c =
     (omega arith, omega arith, turn ∙ c.loop-i.invariant.2)
 
 pub returns-then-m-i : goal.returns-then-m-i
-returns-then-m-i c =    left_same _ _ _ _ _ _ _ c.if-n-i.true c.if-m-i.true ∙ c.loop-i.invariant.2
+returns-then-m-i c = left_same _ _ _ _ _ _ _ c.if-n-i.true c.if-m-i.true ∙ c.loop-i.invariant.2
 
 pub returns-else-m-i : goal.returns-else-m-i
-returns-else-m-i c =    left_less _ _ _ _ _ _ _ c.if-n-i.true c.if-m-i.false ∙ c.loop-i.invariant.2
+returns-else-m-i c = left_less _ _ _ _ _ _ _ c.if-n-i.true c.if-m-i.false ∙ c.loop-i.invariant.2
 
 pub returns-then-m-i-2 : goal.returns-then-m-i-2
-returns-then-m-i-2 c =    left_more _ _ _ _ _ _ _ c.if-n-i.false c.if-m-i-2.true ∙ c.loop-i.invariant.2
+returns-then-m-i-2 c = left_more _ _ _ _ _ _ _ c.if-n-i.false c.if-m-i-2.true ∙ c.loop-i.invariant.2
 
 pub returns-in-Less : goal.returns-in-Less
-returns-in-Less c =    left_at _ _ _ _ _ _ _ c.compare_tuples.ensures c.in-Less.is c.if-n-i.false c.if-m-i-2.false ∙ c.loop-i.invariant.2
+returns-in-Less c = left_at _ _ _ _ _ _ _ c.compare_tuples.ensures c.in-Less.is c.if-n-i.false c.if-m-i-2.false ∙ c.loop-i.invariant.2
 
 pub returns-in-More : goal.returns-in-More
-returns-in-More c =    left_at _ _ _ _ _ _ _ c.compare_tuples.ensures c.in-More.is c.if-n-i.false c.if-m-i-2.false ∙ c.loop-i.invariant.2
+returns-in-More c = left_at _ _ _ _ _ _ _ c.compare_tuples.ensures c.in-More.is c.if-n-i.false c.if-m-i-2.false ∙ c.loop-i.invariant.2

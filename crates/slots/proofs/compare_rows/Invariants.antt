@@ -1,8 +1,8 @@
 -- `slots::compare_rows` meets its contract. Assumes nothing.
-use Rattle.std.proofs.Common.{◌≡◌, ◌-◌, ◌≤◌, ◌∙◌, arith, rules}
+use Rattle.std.proofs.Common.{◌≡◌, ◌-◌, ◌≤◌}
 use Rattle.names.specs.Ordering.{compare_rows}
 use Rattle.slots.specs.Tuples.{tuples_at}
-use Rattle.slots.proofs.PackedTuples.{left_from, left_all, left_same, left_less, left_more, left_at}
+use Rattle.slots.proofs.PackedTuples.{left_from}
 use Rattle.slots.proofs.compare_rows.Given as goal
 
 abbrev pub invariant-loop-i : goal.invariant-loop-i

@@ -1,5 +1,5 @@
 -- `slots::compare_slots` meets its contract. Assumes nothing.
-use Rattle.std.proofs.Common.{◌∙◌, rules}
+use Rattle.std.proofs.Common.{◌∙◌}
 use Rattle.names.specs.Ordering.{compare_rows}
 use Rattle.slots.proofs.NameTests.{name_over_lem}
 use Rattle.slots.proofs.compare_slots.Goals as goal

@@ -1,5 +1,5 @@
 -- `slots::compare_to_one` meets its contract. Assumes nothing.
-use Rattle.std.proofs.Common.{◌∙◌, arith, rules}
+use Rattle.std.proofs.Common.{◌∙◌, arith}
 use Rattle.names.proofs.CompareTuples.{to_none, after_same, after_more}
 use Rattle.slots.specs.Tuples.{tuples_at}
 use Rattle.slots.proofs.TuplesInBytes.{length_tuples_at}

@@ -5,7 +5,7 @@ use Rattle.names.specs.Ordering.{compare_ℕ, then}
 use Rattle.numbers.specs.Bytes.{at32, unsigned}
 use Rattle.numbers.proofs.TwosComplement.{is_word}
 use Rattle.slots.specs.Tuples.{tuple_at}
-use Rattle.slots.proofs.PackedTuples.{front, raised, packed, held_at, held_by, front_at}
+use Rattle.slots.proofs.PackedTuples.{raised, packed, held_at, held_by, front_at}
 use Rattle.slots.proofs.compare_tuple.Goals as goal
 
 pub returns : goal.returns

@@ -1,5 +1,5 @@
 -- `slots::compare_tuples` meets its contract. Assumes nothing.
-use Rattle.std.proofs.Common.{◌+◌, sym, ap, ◌∙◌, arith, rules}
+use Rattle.std.proofs.Common.{◌+◌, sym, ap, ◌∙◌, arith}
 use Rattle.names.specs.Ordering.{compare_ℕ, then}
 use Rattle.numbers.specs.Bytes.{at32}
 use Rattle.slots.specs.Tuples.{tuple_at}

@@ -1,5 +1,5 @@
 -- `slots::copy_ends` meets its contract. Assumes nothing.
-use Rattle.std.proofs.Common.{◌≡◌, ℕ, ◌+◌, ◌-◌, ◌*◌, take, drop, ap, ◌∙◌, arith, rules}
+use Rattle.std.proofs.Common.{◌≡◌, ℕ, ◌+◌, ◌-◌, ◌*◌, take, drop, ap, ◌∙◌, arith}
 use Rattle.numbers.specs.Bytes.{put}
 use Rattle.slots.specs.Tuples.{tuple_size}
 use Rattle.slots.proofs.CopiedTuples.{copied_over}

@@ -1,39 +1,39 @@
 -- `slots::copy_four` meets its contract. Assumes nothing.
-use Rattle.std.proofs.Common.{◌+◌, ◌≤◌, length, refl, ap, ◌∙◌, arith, rules}
+use Rattle.std.proofs.Common.{◌+◌, ◌≤◌, length, refl, ap, ◌∙◌, arith}
 use Rattle.numbers.specs.Bytes.{Octets, put}
 use Rattle.slots.proofs.CopiedTuples.{three_words, copied_on}
 use Rattle.slots.proofs.copy_four.Goals as goal
 
 -- from here on `omega` does not reach the start from `c`: it is bound, in the end by way of places between
 pub overflow_add-at-11 : goal.overflow_add-at-11
-overflow_add-at-11 c =    omega (arith, c.requires.1)
+overflow_add-at-11 c = omega (arith, c.requires.1)
 
 pub read_u32-l-requires : goal.read_u32-l-requires
-read_u32-l-requires c =    omega (arith, c.requires.1)
+read_u32-l-requires c = omega (arith, c.requires.1)
 
 pub write_three-requires : goal.write_three-requires
-write_three-requires c =    omega (arith, c.requires.0)
+write_three-requires c = omega (arith, c.requires.0)
 
 pub overflow_add-p : goal.overflow_add-p
-overflow_add-p c =    omega (arith, c.requires.0)
+overflow_add-p c = omega (arith, c.requires.0)
 
 pub write_three-requires-2 : goal.write_three-requires-2
-write_three-requires-2 c =    omega (arith, c.requires.0)
+write_three-requires-2 c = omega (arith, c.requires.0)
 
 pub overflow_add-p-2 : goal.overflow_add-p-2
-overflow_add-p-2 c =    omega (arith, c.requires.0)
+overflow_add-p-2 c = omega (arith, c.requires.0)
 
 pub write_three-requires-3 : goal.write_three-requires-3
-write_three-requires-3 c =    omega (arith, c.requires.0)
+write_three-requires-3 c = omega (arith, c.requires.0)
 
 pub overflow_add-p-3 : goal.overflow_add-p-3
-overflow_add-p-3 c =    omega (arith, c.requires.0)
+overflow_add-p-3 c = omega (arith, c.requires.0)
 
 pub write_three-requires-4 : goal.write_three-requires-4
-write_three-requires-4 c =    omega (arith, c.requires.0)
+write_three-requires-4 c = omega (arith, c.requires.0)
 
 pub shape_of-out : goal.shape_of-out
-shape_of-out c =    c.write_three-4.auto.out ∙ c.write_three-3.auto.out ∙ c.write_three-2.auto.out ∙ c.write_three.auto.out
+shape_of-out c = c.write_three-4.auto.out ∙ c.write_three-3.auto.out ∙ c.write_three-2.auto.out ∙ c.write_three.auto.out
 
 pub returns : goal.returns
 returns c =

@@ -1,4 +1,4 @@
-use Rattle.std.proofs.Common.{◌≡◌, ℕ, ◌+◌, ◌-◌, ◌≤◌, length, take, drop, refl, ap, ◌∙◌, arith, rules}
+use Rattle.std.proofs.Common.{◌≡◌, ℕ, ◌+◌, ◌≤◌, length, take, drop, refl, ap, ◌∙◌, arith}
 use Rattle.numbers.specs.Bytes.{Bytes, put}
 use Rattle.numbers.proofs.Put.{put_none}
 use Rattle.slots.proofs.CopiedTuples.{copied_on, copied_last}
@@ -11,10 +11,10 @@ more o s p i n {d} h k f g =
     copied_on o s p 0 i n h (omega arith) f (g ∙ ap (λ (j : ℕ). put d (p + i) (take n (drop j s))) z)
 
 pub loop-i-init : goal.loop-i-init
-loop-i-init c =    (omega arith, refl, put_none c.args.out.now c.args.p)
+loop-i-init c = (omega arith, refl, put_none c.args.out.now c.args.p)
 
 pub copy_four-requires : goal.copy_four-requires
-copy_four-requires c =    (omega (arith, c.loop-i-test.true, c.loop-i.invariant.1, c.requires), omega (arith, c.loop-i-test.true))
+copy_four-requires c = (omega (arith, c.loop-i-test.true, c.loop-i.invariant.1, c.requires), omega (arith, c.loop-i-test.true))
 
 pub loop-i-preserved : goal.loop-i-preserved
 loop-i-preserved c =
@@ -26,7 +26,7 @@ loop-i-preserved c =
     (omega (arith, c.loop-i-test.true), omega (arith, k, c.loop-i.invariant.1), on)
 
 pub copy_four-requires-2 : goal.copy_four-requires-2
-copy_four-requires-2 c =    (omega (arith, c.loop-i.invariant.1, c.requires), omega arith)
+copy_four-requires-2 c = (omega (arith, c.loop-i.invariant.1, c.requires), omega arith)
 
 pub returns : goal.returns
 returns c =

@@ -1,8 +1,6 @@
 -- `slots::copy_long` meets its contract. Assumes nothing.
-use Rattle.std.proofs.Common.{◌≡◌, ℕ, ◌+◌, ◌-◌, ◌≤◌, length, take, drop, refl, ap, ◌∙◌, arith, rules}
-use Rattle.numbers.specs.Bytes.{Bytes, put}
-use Rattle.numbers.proofs.Put.{put_none}
-use Rattle.slots.proofs.CopiedTuples.{copied_on, copied_last}
+use Rattle.std.proofs.Common.{◌≡◌, ◌-◌, ◌≤◌, length, take}
+use Rattle.numbers.specs.Bytes.{put}
 use Rattle.slots.proofs.copy_long.Given as goal
 
 abbrev pub invariant-loop-i : goal.invariant-loop-i

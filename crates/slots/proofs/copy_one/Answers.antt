@@ -1,5 +1,5 @@
 -- `slots::copy_one` meets its contract. Assumes nothing.
-use Rattle.std.proofs.Common.{◌+◌, refl, ap, ◌∙◌, arith, rules}
+use Rattle.std.proofs.Common.{◌+◌, refl, ap, ◌∙◌, arith}
 use Rattle.numbers.specs.Bytes.{put}
 use Rattle.slots.proofs.CopiedTuples.{three_words}
 use Rattle.slots.proofs.copy_one.Goals as goal

@@ -1,5 +1,5 @@
 -- `slots::copy_row` meets its contract. Assumes nothing.
-use Rattle.std.proofs.Common.{◌+◌, ◌-◌, ◌*◌, refl, arith, rules}
+use Rattle.std.proofs.Common.{◌+◌, ◌-◌, ◌*◌, refl, arith}
 use Rattle.numbers.specs.Bytes.{Octets}
 use Rattle.numbers.proofs.Put.{put_none}
 use Rattle.slots.specs.Tuples.{tuple_size}

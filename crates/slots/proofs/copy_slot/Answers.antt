@@ -1,5 +1,5 @@
 -- `slots::copy_slot` meets its contract. Assumes nothing.
-use Rattle.std.proofs.Common.{◌≡◌, ℕ, ◌+◌, ◌-◌, ◌*◌, ◌≤◌, ◌++◌, length, replicate, sym, refl, ap, ◌∙◌, add-zero, arith, rules}
+use Rattle.std.proofs.Common.{◌≡◌, ℕ, ◌+◌, ◌-◌, ◌*◌, ◌≤◌, ◌++◌, length, replicate, sym, refl, ap, ◌∙◌, add-zero, arith}
 use Rattle.names.specs.Ordering.{Row}
 use Rattle.names.specs.Names.{limit}
 use Rattle.numbers.specs.Bytes.{Bytes, put}

@@ -1,5 +1,5 @@
 -- `slots::copy_two` meets its contract. Assumes nothing.
-use Rattle.std.proofs.Common.{◌+◌, refl, ap, ◌∙◌, arith, rules}
+use Rattle.std.proofs.Common.{◌+◌, refl, ap, ◌∙◌, arith}
 use Rattle.numbers.specs.Bytes.{Octets, put}
 use Rattle.slots.specs.Tuples.{tuple_size}
 use Rattle.slots.proofs.CopiedTuples.{three_words, copied_on}

@@ -1,5 +1,5 @@
 -- `slots::either` meets its contract. Assumes nothing.
-use Rattle.std.proofs.Common.{sym, arith, rules}
+use Rattle.std.proofs.Common.{sym, arith}
 use lib.Bits.{bit_or, or_add_and, and_le_l, and_le_r}
 use Rattle.numbers.proofs.Zeros.{zero_by}
 use Rattle.slots.proofs.either.Goals as goal

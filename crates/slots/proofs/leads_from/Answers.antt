@@ -1,8 +1,6 @@
-use Rattle.std.proofs.Common.{◌≡◌, ◌+◌, ◌-◌, ◌*◌, true, ◌&&◌, ◌||◌, ltb, sym, ◌∙◌, ⊎_elim, arith, rules, le-ltb, lt-ltb}
-use borrow.Author.Tests.{not-true, not-false}
+use Rattle.std.proofs.Common.{◌≡◌, ◌+◌, ◌*◌, true, ◌&&◌, ◌||◌, ltb, sym, ◌∙◌, arith, le-ltb, lt-ltb}
 use Rattle.names.specs.Names.{ordinary, marker}
-use Rattle.slots.specs.Tuples.{tuple_at, tuples_at, tuple_size}
-use Rattle.slots.specs.Looks.{leads}
+use Rattle.slots.specs.Tuples.{tuple_at, tuple_size}
 use Rattle.slots.proofs.NameTests.{leads_fewer, leads_at, leads_not}
 use Rattle.slots.proofs.leads_from.Goals as goal
 use Rattle.slots.proofs.leads_from.Goals.{then-ordinary_at, else-ordinary_at+else-i-lt1+else-not-marker_at}
@@ -16,13 +14,13 @@ loop-i-preserved c =
     let is = c.ordinary_at.ensures in
     let goes : true ≡ ordinary t || (ltb 0 i && marker t) =
     elim c.if-ordinary_at.branch [
-      then-ordinary_at w ↦ λ j. (sym w.if-ordinary_at.true ∙ is) j || (ltb 0 i && marker t)
-    | else-ordinary_at+else-i-lt1+else-not-marker_at w ↦ λ j. (sym w.if-ordinary_at.false ∙ is) j || (sym (lt-ltb 0 i w.if-i-lt1.false) j && (sym w.if-not-marker_at.false ∙ w.marker_at.ensures) j)
+      | then-ordinary_at w ↦ λ j. (sym w.if-ordinary_at.true ∙ is) j || (ltb 0 i && marker t)
+      | else-ordinary_at+else-i-lt1+else-not-marker_at w ↦ λ j. (sym w.if-ordinary_at.false ∙ is) j || (sym (lt-ltb 0 i w.if-i-lt1.false) j && (sym w.if-not-marker_at.false ∙ w.marker_at.ensures) j)
     ] in
     sym (leads_at s p i c.loop-i.invariant goes)
 
 pub returns-then-n-i : goal.returns-then-n-i
-returns-then-n-i c =    sym (leads_fewer c.args.s.now c.args.p c.args.n c.loop-i.i c.if-n-i.true c.loop-i.invariant)
+returns-then-n-i c = sym (leads_fewer c.args.s.now c.args.p c.args.n c.loop-i.i c.if-n-i.true c.loop-i.invariant)
 
 pub returns-then-i-lt1 : goal.returns-then-i-lt1
 returns-then-i-lt1 c =

@@ -1,6 +1,5 @@
 -- `slots::look_after` meets its contract. Assumes nothing.
-use Rattle.std.proofs.Common.{sym, refl, ap, ◌∙◌, arith, rules}
-use borrow.Author.Tests.{not-true, not-false}
+use Rattle.std.proofs.Common.{sym, refl, ap, ◌∙◌, arith}
 use Rattle.names.specs.Ordering.{compare_rows, is_less}
 use Rattle.slots.specs.Tuples.{tuples_at}
 use Rattle.slots.specs.Slots.{head_size}

@@ -1,5 +1,5 @@
 -- `slots::marker_at` meets its contract. Assumes nothing.
-use Rattle.std.proofs.Common.{sym, ◌∙◌, arith, rules, ne_eqb}
+use Rattle.std.proofs.Common.{sym, ◌∙◌, arith, ne_eqb}
 use mathlib.Core.Bool.{or-false}
 use Rattle.slots.proofs.TupleTests.{marker_by}
 use Rattle.slots.proofs.marker_at.Goals as goal

@@ -1,7 +1,6 @@
 -- `slots::name_from` meets its contract. Assumes nothing.
-use Rattle.std.proofs.Common.{◌-◌, sym, refl, ◌∙◌, arith, rules}
+use Rattle.std.proofs.Common.{◌-◌, sym, refl, ◌∙◌, arith}
 use mathlib.Core.Bool.{and-true, and-false}
-use borrow.Author.Tests.{not-true, not-false}
 use Rattle.slots.specs.Tuples.{tuples_at}
 use Rattle.slots.specs.Looks.{leads}
 use Rattle.slots.proofs.NameTests.{name_by}

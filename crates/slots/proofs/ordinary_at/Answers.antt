@@ -1,5 +1,5 @@
 -- `slots::ordinary_at` meets its contract. Assumes nothing.
-use Rattle.std.proofs.Common.{pos, negsuc, ap, ◌∙◌, arith, rules}
+use Rattle.std.proofs.Common.{pos, negsuc, ap, ◌∙◌, arith}
 use Rattle.names.specs.Names.{within_ℤ}
 use Rattle.numbers.specs.Bytes.{signed}
 use Rattle.slots.proofs.TupleTests.{low_position, high_position, no_node, by_offset}

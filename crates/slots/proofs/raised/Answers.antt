@@ -1,5 +1,4 @@
 -- `slots::raised` meets its contract. Assumes nothing.
-use Rattle.std.proofs.Common.{rules}
 use Rattle.slots.proofs.raised.Goals as goal
 
 pub returns : goal.returns

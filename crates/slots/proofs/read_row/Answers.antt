@@ -1,4 +1,4 @@
-use Rattle.std.proofs.Common.{◌≡◌, ℕ, ◌+◌, ◌-◌, ◌*◌, ◌<◌, ◌≤◌, length, get_or, refl, arith, length-set, rules, below_none}
+use Rattle.std.proofs.Common.{◌≡◌, ◌+◌, ◌*◌, length, refl, arith, length-set, below_none}
 use Rattle.names.specs.Names.{m, limit}
 use Rattle.slots.specs.Tuples.{tuple_at, tuple_size}
 use Rattle.numbers.proofs.Lists.{filled_more}

@@ -1,9 +1,7 @@
 -- `slots::read_row` meets its contract. Assumes nothing.
-use Rattle.std.proofs.Common.{◌≡◌, ℕ, ◌+◌, ◌-◌, ◌*◌, ◌<◌, ◌≤◌, length, get_or, refl, arith, length-set, rules, below_none}
+use Rattle.std.proofs.Common.{◌≡◌, ℕ, ◌+◌, ◌-◌, ◌*◌, ◌<◌, ◌≤◌, length, get_or}
 use Rattle.names.specs.Names.{m, limit}
 use Rattle.slots.specs.Tuples.{tuple_at, tuple_size}
-use Rattle.numbers.proofs.Lists.{filled_more}
-use Rattle.slots.proofs.TuplesInBytes.{filled_all}
 use Rattle.slots.proofs.read_row.Given as goal
 
 abbrev pub invariant-loop-k : goal.invariant-loop-k

@@ -1,5 +1,5 @@
 -- `slots::read_tuple` meets its contract. Assumes nothing.
-use Rattle.std.proofs.Common.{ap, ◌∙◌, w32, rules}
+use Rattle.std.proofs.Common.{ap, ◌∙◌, w32}
 use mir.ValLaws.{to_z-of_z}
 use Rattle.numbers.specs.Bytes.{signed}
 use Rattle.slots.specs.Tuples.{tuple_at}

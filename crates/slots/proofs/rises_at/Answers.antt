@@ -1,5 +1,5 @@
 -- `slots::rises_at` meets its contract. Assumes nothing.
-use Rattle.std.proofs.Common.{ap, ◌∙◌, arith, rules}
+use Rattle.std.proofs.Common.{ap, ◌∙◌, arith}
 use Rattle.names.specs.Ordering.{is_less}
 use Rattle.slots.proofs.PackedTuples.{left_less, left_not, left_differ, left_alike}
 use Rattle.slots.proofs.rises_at.Goals as goal

@@ -1,5 +1,5 @@
 -- `slots::write_head` meets its contract. Assumes nothing.
-use Rattle.std.proofs.Common.{◌*◌, ◌++◌, refl, ap, ◌∙◌, arith, rules}
+use Rattle.std.proofs.Common.{◌*◌, ◌++◌, refl, ap, ◌∙◌, arith}
 use Rattle.numbers.specs.Bytes.{Bytes, put, bytes32}
 use Rattle.numbers.proofs.Put.{put_more}
 use Rattle.slots.proofs.WrittenSlots.{depth_bytes}

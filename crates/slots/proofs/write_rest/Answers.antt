@@ -1,5 +1,5 @@
 -- `slots::write_rest` meets its contract. Assumes nothing.
-use Rattle.std.proofs.Common.{◌≡◌, ℕ, ◌+◌, ◌-◌, ◌*◌, replicate, ap, ◌∙◌, arith, rules}
+use Rattle.std.proofs.Common.{◌≡◌, ℕ, ◌+◌, ◌-◌, ◌*◌, replicate, ap, ◌∙◌, arith}
 use Rattle.names.specs.Names.{limit}
 use Rattle.numbers.specs.Bytes.{put}
 use Rattle.slots.specs.Tuples.{tuple_size}

@@ -1,4 +1,4 @@
-use Rattle.std.proofs.Common.{◌≡◌, ℕ, ◌+◌, ◌-◌, ◌*◌, ◌≤◌, min, length, get_or, take, sym, refl, ap, ◌∙◌, arith, length-take, length-take-le, rules}
+use Rattle.std.proofs.Common.{◌≡◌, ℕ, ◌+◌, ◌*◌, ◌≤◌, min, length, get_or, take, sym, refl, ap, ◌∙◌, arith, length-take, length-take-le}
 use Rattle.names.specs.Names.{m}
 use Rattle.numbers.proofs.Lists.{take_min}
 use Rattle.numbers.specs.Bytes.{put}
@@ -8,7 +8,7 @@ use Rattle.slots.proofs.WrittenSlots.{row_more, row_length}
 use Rattle.slots.proofs.write_row.Goals as goal
 
 pub loop-k-init : goal.loop-k-init
-loop-k-init c =    (omega (arith, length-take c.args.a.depth c.args.a.tuples), omega arith, refl, put_none c.args.out.now c.args.p)
+loop-k-init c = (omega (arith, length-take c.args.a.depth c.args.a.tuples), omega arith, refl, put_none c.args.out.now c.args.p)
 
 pub loop-k-preserved : goal.loop-k-preserved
 loop-k-preserved c =
@@ -24,7 +24,7 @@ loop-k-preserved c =
     (v.0, omega arith, c.write_tuple.auto.out ∙ v.2, d ∙ sym (ap (put o p) (row_more ts k (omega arith))))
 
 pub shape_of-out : goal.shape_of-out
-shape_of-out c =    c.loop-k.invariant.2
+shape_of-out c = c.loop-k.invariant.2
 
 pub returns : goal.returns
 returns c =

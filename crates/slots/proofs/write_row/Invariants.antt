@@ -1,11 +1,7 @@
 -- `slots::write_row` meets its contract. Assumes nothing.
-use Rattle.std.proofs.Common.{◌≡◌, ℕ, ◌+◌, ◌-◌, ◌*◌, ◌≤◌, min, length, get_or, take, sym, refl, ap, ◌∙◌, arith, length-take, length-take-le, rules}
-use Rattle.names.specs.Names.{m}
-use Rattle.numbers.proofs.Lists.{take_min}
+use Rattle.std.proofs.Common.{◌≡◌, ◌-◌, ◌≤◌, length, take}
 use Rattle.numbers.specs.Bytes.{put}
-use Rattle.slots.specs.Tuples.{tuple_bytes, row_bytes, tuple_size}
-use Rattle.numbers.proofs.Put.{put_more, put_none}
-use Rattle.slots.proofs.WrittenSlots.{row_more, row_length}
+use Rattle.slots.specs.Tuples.{row_bytes}
 use Rattle.slots.proofs.write_row.Given as goal
 
 abbrev pub invariant-loop-k : goal.invariant-loop-k

@@ -1,5 +1,5 @@
 -- `slots::write_slot` meets its contract. Assumes nothing.
-use Rattle.std.proofs.Common.{arith, rules}
+use Rattle.std.proofs.Common.{arith}
 use Rattle.names.specs.Names.{row_of}
 use Rattle.slots.proofs.WrittenSlots.{slot_written}
 use Rattle.slots.proofs.write_slot.Goals as goal

@@ -1,5 +1,5 @@
 -- `slots::write_three` meets its contract. Assumes nothing.
-use Rattle.std.proofs.Common.{◌≤◌, ◌++◌, length, refl, arith, rules}
+use Rattle.std.proofs.Common.{◌≤◌, ◌++◌, length, refl, arith}
 use Rattle.numbers.specs.Bytes.{bytes32}
 use Rattle.numbers.proofs.Put.{put_more}
 use Rattle.slots.proofs.write_three.Goals as goal

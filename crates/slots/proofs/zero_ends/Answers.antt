@@ -1,5 +1,5 @@
 -- `slots::zero_ends` meets its contract. Assumes nothing.
-use Rattle.std.proofs.Common.{◌+◌, ◌-◌, ◌*◌, ◌∙◌, arith, rules}
+use Rattle.std.proofs.Common.{◌+◌, ◌-◌, ◌*◌, ◌∙◌, arith}
 use Rattle.slots.specs.Tuples.{tuple_size}
 use Rattle.slots.specs.Slots.{head_size}
 use Rattle.slots.proofs.ZeroTuples.{zeros_ends}

@@ -1,4 +1,4 @@
-use Rattle.std.proofs.Common.{◌≡◌, ℕ, ◌-◌, ◌≤◌, ◌&&◌, eqb, take, drop, refl, ap, ◌∙◌, arith, rules}
+use Rattle.std.proofs.Common.{◌≡◌, ℕ, ◌&&◌, take, drop, refl, ap, ◌∙◌, arith}
 use Rattle.numbers.specs.Bytes.{all_zero}
 use Rattle.slots.proofs.ZeroTuples.{zeros_both}
 use Rattle.slots.proofs.zero_runs.Goals as goal

@@ -1,7 +1,6 @@
 -- `slots::zero_runs` meets its contract. Assumes nothing.
-use Rattle.std.proofs.Common.{◌≡◌, ℕ, ◌-◌, ◌≤◌, ◌&&◌, eqb, take, drop, refl, ap, ◌∙◌, arith, rules}
+use Rattle.std.proofs.Common.{◌≡◌, ◌-◌, ◌≤◌, ◌&&◌, eqb, take, drop}
 use Rattle.numbers.specs.Bytes.{all_zero}
-use Rattle.slots.proofs.ZeroTuples.{zeros_both}
 use Rattle.slots.proofs.zero_runs.Given as goal
 
 abbrev pub invariant-loop-i : goal.invariant-loop-i

@@ -1,4 +1,4 @@
-use Rattle.std.proofs.Common.{◌≡◌, ℕ, ◌+◌, ◌-◌, ◌*◌, ◌≤◌, true, drop, sym, ap, ◌∙◌, arith, rules}
+use Rattle.std.proofs.Common.{◌≡◌, ℕ, ◌+◌, ◌-◌, ◌*◌, drop, sym, ap, ◌∙◌, arith}
 use Rattle.numbers.specs.Bytes.{all_zero}
 use Rattle.slots.specs.Tuples.{tuple_size}
 use Rattle.slots.specs.Slots.{head_size}
@@ -6,7 +6,7 @@ use Rattle.slots.proofs.ZeroTuples.{zeros_more, zeros_fail}
 use Rattle.slots.proofs.zero_up_to.Goals as goal
 
 pub loop-i-init : goal.loop-i-init
-loop-i-init c =    (c.requires.0, omega arith, c.requires.2)
+loop-i-init c = (c.requires.0, omega arith, c.requires.2)
 
 pub loop-i-preserved : goal.loop-i-preserved
 loop-i-preserved c =
@@ -19,4 +19,4 @@ returns-then-i-d c =
     sym c.loop-i.invariant.2 ∙ ap (λ (i : ℕ). all_zero (drop (head_size + tuple_size * i) c.args.s.now)) e
 
 pub returns-else-zero_at : goal.returns-else-zero_at
-returns-else-zero_at c =    zeros_fail c.args.s.now (head_size + tuple_size * (c.loop-i.i - 1)) tuple_size (head_size + tuple_size * c.args.d) (omega arith) (sym c.if-zero_at.false ∙ c.zero_at.ensures)
+returns-else-zero_at c = zeros_fail c.args.s.now (head_size + tuple_size * (c.loop-i.i - 1)) tuple_size (head_size + tuple_size * c.args.d) (omega arith) (sym c.if-zero_at.false ∙ c.zero_at.ensures)

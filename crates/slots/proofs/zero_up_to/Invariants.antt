@@ -1,9 +1,8 @@
 -- `slots::zero_up_to` meets its contract. Assumes nothing.
-use Rattle.std.proofs.Common.{◌≡◌, ℕ, ◌+◌, ◌-◌, ◌*◌, ◌≤◌, true, drop, sym, ap, ◌∙◌, arith, rules}
+use Rattle.std.proofs.Common.{◌≡◌, ◌+◌, ◌*◌, ◌≤◌, true, drop}
 use Rattle.numbers.specs.Bytes.{all_zero}
 use Rattle.slots.specs.Tuples.{tuple_size}
 use Rattle.slots.specs.Slots.{head_size}
-use Rattle.slots.proofs.ZeroTuples.{zeros_more, zeros_fail}
 use Rattle.slots.proofs.zero_up_to.Given as goal
 
 abbrev pub invariant-loop-i : goal.invariant-loop-i
