@@ -1,11 +1,10 @@
 -- 01's case of epochs, for every count that its renames may have (`figure_holds`), and the story of 02's P1 (`drawer_holds`), by
 -- computation. Assumes nothing.
-use Prim.Native.Nat.{ℕ, ◌≤◌}
 use mathlib.Core.Path.{refl}
 use borrow.Author.Tests.{le-leb, le-ltb}
 use native.Mathlib.Nat.{le_refl}
 use Rattle.epoch_tree.specs.Tables.{is_table}
-use Rattle.epoch_tree.specs.Case.{Figure, FigureHolds, Drawer}
+use Rattle.epoch_tree.specs.Case.{FigureHolds, Drawer}
 
 pub figure_holds : FigureHolds
 unfolding is_table

@@ -3,7 +3,6 @@
 
 #![tactic(auto)]
 
-
 // "One question gives the next step from a current index: stay, up to the parent, or down to a child, given by index."
 #[derive(Clone, Copy)]
 pub enum Step {

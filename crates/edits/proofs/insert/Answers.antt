@@ -11,8 +11,8 @@ use Rattle.edits.proofs.insert.Goals as goal
 pub returns-in-Refused : goal.returns-in-Refused
 returns-in-Refused c =
     let both : (_ ≡ (insert_outcome c.args.page.now c.args.slot.now (length c.args.out.now)).answer) × (_ ≡ leaves (insert_outcome c.args.page.now c.args.slot.now (length c.args.out.now)) c.args.out.now) =
-      refused _ _ _ (insert_refused c.args.page.now c.args.slot.now _ _ (sym c.check_edit.ensures ∙ c.in-Refused.is))
-    in record { value = both.0; out_after = both.1; }
+    refused _ _ _ (insert_refused c.args.page.now c.args.slot.now _ _ (sym c.check_edit.ensures ∙ c.in-Refused.is))
+    in record { value = both.0; out_after = both.1 }
 
 pub find-requires : goal.find-requires
 find-requires c =
@@ -34,5 +34,5 @@ returns-in-Here c =
     let slot = c.args.slot.now in
     let p = checked page slot (sym c.check_edit.ensures ∙ c.in-Passed.is) in
     let both : (_ ≡ (insert_outcome c.args.page.now c.args.slot.now (length c.args.out.now)).answer) × (_ ≡ leaves (insert_outcome c.args.page.now c.args.slot.now (length c.args.out.now)) c.args.out.now) =
-      refused _ _ _ (insert_present page slot _ _ p (sym c.find.ensures ∙ c.in-Here.is))
-    in record { value = both.0; out_after = both.1; }
+    refused _ _ _ (insert_present page slot _ _ p (sym c.find.ensures ∙ c.in-Here.is))
+    in record { value = both.0; out_after = both.1 }

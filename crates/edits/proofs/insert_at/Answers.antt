@@ -11,7 +11,7 @@ use Rattle.edits.proofs.insert_at.Goals as goal
 pub returns-then-page-ge-PAGE : goal.returns-then-page-ge-PAGE
 returns-then-page-ge-PAGE c =
     let at_gap : AtGap c.args.page.now c.args.slot.now c.args.k =
-      record {
+    record {
       octets = λ i. omega (arith, c.type_inv.page i);
       slot_octets = λ i. omega (arith, c.type_inv.slot i);
       layout = c.requires.page_value.0;
@@ -20,13 +20,13 @@ returns-then-page-ge-PAGE c =
       place = c.requires.page_value_2;
     } in
     let both : (_ ≡ (insert_outcome c.args.page.now c.args.slot.now (length c.args.out.now)).answer) × (_ ≡ leaves (insert_outcome c.args.page.now c.args.slot.now (length c.args.out.now)) c.args.out.now) =
-      refused _ _ _ (insert_full at_gap _ (omega arith))
-    in record { value = both.0; out_after = both.1; }
+    refused _ _ _ (insert_full at_gap _ (omega arith))
+    in record { value = both.0; out_after = both.1 }
 
 pub returns-then-out-page : goal.returns-then-out-page
 returns-then-out-page c =
     let at_gap : AtGap c.args.page.now c.args.slot.now c.args.k =
-      record {
+    record {
       octets = λ i. omega (arith, c.type_inv.page i);
       slot_octets = λ i. omega (arith, c.type_inv.slot i);
       layout = c.requires.page_value.0;
@@ -35,13 +35,13 @@ returns-then-out-page c =
       place = c.requires.page_value_2;
     } in
     let both : (_ ≡ (insert_outcome c.args.page.now c.args.slot.now (length c.args.out.now)).answer) × (_ ≡ leaves (insert_outcome c.args.page.now c.args.slot.now (length c.args.out.now)) c.args.out.now) =
-      refused _ _ _ (insert_short at_gap _ (omega arith) (omega arith))
-    in record { value = both.0; out_after = both.1; }
+    refused _ _ _ (insert_short at_gap _ (omega arith) (omega arith))
+    in record { value = both.0; out_after = both.1 }
 
 pub write_with-requires : goal.write_with-requires
 write_with-requires c =
     let at_gap : AtGap c.args.page.now c.args.slot.now c.args.k =
-      record {
+    record {
       octets = λ i. omega (arith, c.type_inv.page i);
       slot_octets = λ i. omega (arith, c.type_inv.slot i);
       layout = c.requires.page_value.0;
@@ -56,7 +56,7 @@ write_with-requires c =
 pub returns : goal.returns
 returns c =
     let at_gap : AtGap c.args.page.now c.args.slot.now c.args.k =
-      record {
+    record {
       octets = λ i. omega (arith, c.type_inv.page i);
       slot_octets = λ i. omega (arith, c.type_inv.slot i);
       layout = c.requires.page_value.0;
@@ -65,5 +65,5 @@ returns c =
       place = c.requires.page_value_2;
     } in
     let both : (_ ≡ (insert_outcome c.args.page.now c.args.slot.now (length c.args.out.now)).answer) × (_ ≡ leaves (insert_outcome c.args.page.now c.args.slot.now (length c.args.out.now)) c.args.out.now) =
-      accepted _ _ _ _ _ (insert_done at_gap (length c.args.out.now) (omega arith) (omega arith)) c.write_with.ensures
-    in record { value = both.0; out_after = both.1; }
+    accepted _ _ _ _ _ (insert_done at_gap (length c.args.out.now) (omega arith) (omega arith)) c.write_with.ensures
+    in record { value = both.0; out_after = both.1 }

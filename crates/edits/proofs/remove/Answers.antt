@@ -11,8 +11,8 @@ use Rattle.edits.proofs.remove.Goals as goal
 pub returns-in-Refused : goal.returns-in-Refused
 returns-in-Refused c =
     let both : (_ ≡ (remove_outcome c.args.page.now c.args.slot.now (length c.args.out.now)).answer) × (_ ≡ leaves (remove_outcome c.args.page.now c.args.slot.now (length c.args.out.now)) c.args.out.now) =
-      refused _ _ _ (remove_refused c.args.page.now c.args.slot.now _ _ (sym c.check_edit.ensures ∙ c.in-Refused.is))
-    in record { value = both.0; out_after = both.1; }
+    refused _ _ _ (remove_refused c.args.page.now c.args.slot.now _ _ (sym c.check_edit.ensures ∙ c.in-Refused.is))
+    in record { value = both.0; out_after = both.1 }
 
 pub find-requires : goal.find-requires
 find-requires c =
@@ -34,5 +34,5 @@ returns-in-Gap c =
     let slot = c.args.slot.now in
     let p = checked page slot (sym c.check_edit.ensures ∙ c.in-Passed.is) in
     let both : (_ ≡ (remove_outcome c.args.page.now c.args.slot.now (length c.args.out.now)).answer) × (_ ≡ leaves (remove_outcome c.args.page.now c.args.slot.now (length c.args.out.now)) c.args.out.now) =
-      refused _ _ _ (remove_absent page slot _ _ p (sym c.find.ensures ∙ c.in-Gap.is))
-    in record { value = both.0; out_after = both.1; }
+    refused _ _ _ (remove_absent page slot _ _ p (sym c.find.ensures ∙ c.in-Gap.is))
+    in record { value = both.0; out_after = both.1 }

@@ -11,7 +11,7 @@ use Rattle.edits.proofs.remove_at.Goals as goal
 pub overflow_sub-page : goal.overflow_sub-page
 overflow_sub-page c =
     let at_slot : AtSlot c.args.page.now c.args.slot.now c.args.k =
-      record {
+    record {
       octets = λ i. omega (arith, c.type_inv.page i);
       layout = c.requires.page_value.0;
       slot_layout = c.requires.page_value.1;
@@ -25,7 +25,7 @@ overflow_sub-page c =
 pub returns-then-out-page : goal.returns-then-out-page
 returns-then-out-page c =
     let at_slot : AtSlot c.args.page.now c.args.slot.now c.args.k =
-      record {
+    record {
       octets = λ i. omega (arith, c.type_inv.page i);
       layout = c.requires.page_value.0;
       slot_layout = c.requires.page_value.1;
@@ -33,13 +33,13 @@ returns-then-out-page c =
       place = c.requires.page_value_2;
     } in
     let both : (_ ≡ (remove_outcome c.args.page.now c.args.slot.now (length c.args.out.now)).answer) × (_ ≡ leaves (remove_outcome c.args.page.now c.args.slot.now (length c.args.out.now)) c.args.out.now) =
-      refused _ _ _ (remove_short at_slot _ (omega arith))
-    in record { value = both.0; out_after = both.1; }
+    refused _ _ _ (remove_short at_slot _ (omega arith))
+    in record { value = both.0; out_after = both.1 }
 
 pub write_without-requires : goal.write_without-requires
 write_without-requires c =
     let at_slot : AtSlot c.args.page.now c.args.slot.now c.args.k =
-      record {
+    record {
       octets = λ i. omega (arith, c.type_inv.page i);
       layout = c.requires.page_value.0;
       slot_layout = c.requires.page_value.1;
@@ -53,7 +53,7 @@ write_without-requires c =
 pub overflow_sub-result : goal.overflow_sub-result
 overflow_sub-result c =
     let at_slot : AtSlot c.args.page.now c.args.slot.now c.args.k =
-      record {
+    record {
       octets = λ i. omega (arith, c.type_inv.page i);
       layout = c.requires.page_value.0;
       slot_layout = c.requires.page_value.1;
@@ -67,7 +67,7 @@ overflow_sub-result c =
 pub returns : goal.returns
 returns c =
     let at_slot : AtSlot c.args.page.now c.args.slot.now c.args.k =
-      record {
+    record {
       octets = λ i. omega (arith, c.type_inv.page i);
       layout = c.requires.page_value.0;
       slot_layout = c.requires.page_value.1;
@@ -75,5 +75,5 @@ returns c =
       place = c.requires.page_value_2;
     } in
     let both : (_ ≡ (remove_outcome c.args.page.now c.args.slot.now (length c.args.out.now)).answer) × (_ ≡ leaves (remove_outcome c.args.page.now c.args.slot.now (length c.args.out.now)) c.args.out.now) =
-      accepted _ _ _ _ _ (remove_done at_slot (length c.args.out.now) (omega arith)) c.write_without.ensures
-    in record { value = both.0; out_after = both.1; }
+    accepted _ _ _ _ _ (remove_done at_slot (length c.args.out.now) (omega arith)) c.write_without.ensures
+    in record { value = both.0; out_after = both.1 }

@@ -10,10 +10,10 @@ use Rattle.numbers.proofs.Put.{put_more}
 use Rattle.edits.proofs.write_without.Goals as goal
 
 pub slice_bounds-copy_long-end : goal.slice_bounds-copy_long-end
-slice_bounds-copy_long-end c =    sym (length-take-le (slot_size * c.args.k) c.args.page.now (omega arith))
+slice_bounds-copy_long-end c = sym (length-take-le (slot_size * c.args.k) c.args.page.now (omega arith))
 
 pub copy_long-requires : goal.copy_long-requires
-copy_long-requires c =    omega (arith, length-take (slot_size * c.args.k) c.args.page.now)
+copy_long-requires c = omega (arith, length-take (slot_size * c.args.k) c.args.page.now)
 
 pub returns : goal.returns
 returns c =

@@ -7,7 +7,6 @@ use lib.ListN.{length, get_or}
 use borrow.Author.Tests.{eq-eqb, ne_eqb, le-leb, lt-leb}
 use Rattle.fields.specs.Fields.{field_head}
 use Rattle.fields.proofs.FieldAt.{stands_at, size_at}
-use borrow.Author.Rules.{rules}
 use Rattle.fields.proofs.field_stands.Goals as goal
 
 pub returns-then-bytes-at-lt-FIELD : goal.returns-then-bytes-at-lt-FIELD

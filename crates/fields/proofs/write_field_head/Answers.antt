@@ -6,14 +6,13 @@ use lib.ListN.{length-set}
 use lib.Seq.{sets-eq}
 use Rattle.numbers.specs.Bytes.{bytes16}
 use Rattle.numbers.proofs.Put.{put_more}
-use borrow.Author.Rules.{rules}
 use Rattle.fields.proofs.write_field_head.Goals as goal
 
 pub write_u16-requires : goal.write_u16-requires
 write_u16-requires c = simp length-set (omega arith)
 
 pub shape_of-out : goal.shape_of-out
-shape_of-out c =    c.write_u16.auto.out ∙ length-set c.args.out.now c.args.p c.args.tag
+shape_of-out c = c.write_u16.auto.out ∙ length-set c.args.out.now c.args.p c.args.tag
 
 pub returns : goal.returns
 returns c =

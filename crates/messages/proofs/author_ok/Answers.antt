@@ -4,7 +4,6 @@ use mathlib.Core.Bool.{and-true}
 use Prim.Native.Nat.{◌≤◌}
 use native.Mathlib.Omega.{arith}
 use borrow.Author.Tests.{le-leb}
-use borrow.Author.Rules.{rules}
 use Rattle.messages.proofs.author_ok.Goals as goal
 
 pub returns : goal.returns

@@ -4,7 +4,6 @@ use Prim.Native.Nat.{◌≤◌, ◌<◌}
 use native.Mathlib.Omega.{arith}
 use borrow.Author.Tests.{le-leb, lt-leb}
 use Rattle.messages.specs.Messages.{insert}
-use borrow.Author.Rules.{rules}
 use Rattle.messages.proofs.kind_ok.Goals as goal
 
 pub returns-then-kind-lt-INSERT : goal.returns-then-kind-lt-INSERT

@@ -4,7 +4,6 @@ use Prim.Native.Nat.{◌≤◌}
 use native.Mathlib.Omega.{arith}
 use borrow.Author.Tests.{le-leb, eq-eqb, ne_eqb}
 use Rattle.messages.specs.Messages.{insert}
-use borrow.Author.Rules.{rules}
 use Rattle.messages.proofs.line_ok.Goals as goal
 
 pub returns-then-kind-eq-INSERT : goal.returns-then-kind-eq-INSERT

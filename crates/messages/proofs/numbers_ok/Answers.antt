@@ -1,7 +1,5 @@
 -- `messages::numbers_ok` meets its contract. Assumes nothing.
 use mathlib.Core.Path.{sym, ◌∙◌}
-use borrow.Author.Tests.{not-true, not-false}
-use borrow.Author.Rules.{rules}
 use Rattle.messages.proofs.numbers_ok.Goals as goal
 
 pub returns-then-not-kind_ok : goal.returns-then-not-kind_ok

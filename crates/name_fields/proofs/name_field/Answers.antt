@@ -5,7 +5,7 @@ use Prim.Native.Nat.{ℕ, ◌+◌, ◌/◌, ◌%◌, ◌<◌}
 use native.Mathlib.Omega.{arith}
 use lib.Dec.{eqb}
 use lib.ListN.{length, drop}
-use borrow.Author.Tests.{lt-leb, eq-eqb, ne_eqb, not-true, not-false}
+use borrow.Author.Tests.{lt-leb, eq-eqb, ne_eqb}
 use Rattle.numbers.specs.Bytes.{at16}
 use Rattle.slots.specs.Tuples.{tuple_size}
 use Rattle.fields.specs.Fields.{field_head, size_in, stands}
@@ -13,7 +13,6 @@ use Rattle.name_fields.specs.NameFields.{name_stands_as}
 use Rattle.name_fields.specs.declared.NameField.{NameField}
 use Rattle.name_fields.specs.declared.NameField.TheVariants.{Tuples, Nothing}
 use Rattle.name_fields.proofs.NameAt.{name_at}
-use borrow.Author.Rules.{rules}
 use Rattle.name_fields.proofs.name_field.Goals as goal
 
 -- no field stands there
@@ -36,7 +35,7 @@ returns-then-not-field_stands c =
     none _ (ap (λ (b : Bool). b && eqb (size_in t % tuple_size) 0) h)
 
 pub overflow_mul-count : goal.overflow_mul-count
-overflow_mul-count c =    omega (arith, c.size_at-size.ensures.1)
+overflow_mul-count c = omega (arith, c.size_at-size.ensures.1)
 
 pub returns-then-count-size : goal.returns-then-count-size
 returns-then-count-size c =

@@ -10,7 +10,6 @@ use Rattle.numbers.proofs.Put.{put_more}
 use Rattle.slots.proofs.TuplesInBytes.{length_tuples_at}
 use Rattle.slots.proofs.WrittenSlots.{row_length}
 use Rattle.name_fields.proofs.NameAt.{field_size}
-use borrow.Author.Rules.{rules}
 use Rattle.name_fields.proofs.write_name.Goals as goal
 
 pub copy_row-requires : goal.copy_row-requires

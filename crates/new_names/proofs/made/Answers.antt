@@ -12,10 +12,10 @@ use Rattle.new_names.proofs.PartsOfNames.{parts_length}
 use Rattle.new_names.proofs.made.Goals as goal
 
 pub loop-k-init : goal.loop-k-init
-loop-k-init c =    (refl, omega arith, λ i. record { depth = 0; tuples = replicate limit (c.low_marker-tuples.ensures i) })
+loop-k-init c = (refl, omega arith, λ i. record { depth = 0; tuples = replicate limit (c.low_marker-tuples.ensures i) })
 
 pub part_at-requires : goal.part_at-requires
-part_at-requires c =    (c.requires.0.0, omega arith)
+part_at-requires c = (c.requires.0.0, omega arith)
 
 pub loop-k-preserved : goal.loop-k-preserved
 loop-k-preserved c =

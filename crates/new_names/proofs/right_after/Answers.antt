@@ -6,4 +6,4 @@ use Rattle.new_names.proofs.PartsOfNames.{given}
 use Rattle.new_names.proofs.right_after.Goals as goal
 
 pub returns : goal.returns
-returns c =    λ s l. given s c.one_more.result (λ i. some (row_at s c.args.a ++ (c.own.ensures i ∷ []))) (c.one_more.ensures s l)
+returns c = λ s l. given s c.one_more.result (λ i. some (row_at s c.args.a ++ (c.own.ensures i ∷ []))) (c.one_more.ensures s l)

@@ -6,7 +6,7 @@ use Rattle.new_names.proofs.Prefixes.{before_zero, before_suc}
 use Rattle.new_names.proofs.span_before.Goals as goal
 
 pub returns-then-gap-lt1 : goal.returns-then-gap-lt1
-returns-then-gap-lt1 c =    ((omega arith, omega arith), before_zero c.args.gap (names_of c.args.page.now) c.if-gap-lt1.true)
+returns-then-gap-lt1 c = ((omega arith, omega arith), before_zero c.args.gap (names_of c.args.page.now) c.if-gap-lt1.true)
 
 pub returns : goal.returns
 returns c =

@@ -16,16 +16,16 @@ pub returns-in-Broken : goal.returns-in-Broken
 returns-in-Broken c =
     let s = c.args.old.now in
     let both : (_ ≡ (from_old_outcome c.args.old.now (length c.args.out.now)).answer) × (_ ≡ leaves (from_old_outcome c.args.old.now (length c.args.out.now)) c.args.out.now) =
-      refused _ _ _ (from_bad_layout s _ (tells_broken (keeps_old s) (old_rises s) (c.in-Broken.ensures)))
-    in record { value = both.0; out_after = both.1; }
+    refused _ _ _ (from_bad_layout s _ (tells_broken (keeps_old s) (old_rises s) (c.in-Broken.ensures)))
+    in record { value = both.0; out_after = both.1 }
 
 pub returns-in-NotRising : goal.returns-in-NotRising
 returns-in-NotRising c =
     let s = c.args.old.now in
     let told = tells_falling (keeps_old s) (old_rises s) (c.in-NotRising.ensures) in
     let both : (_ ≡ (from_old_outcome c.args.old.now (length c.args.out.now)).answer) × (_ ≡ leaves (from_old_outcome c.args.old.now (length c.args.out.now)) c.args.out.now) =
-      refused _ _ _ (from_not_rising s _ told.0 told.1)
-    in record { value = both.0; out_after = both.1; }
+    refused _ _ _ (from_not_rising s _ told.0 told.1)
+    in record { value = both.0; out_after = both.1 }
 
 pub returns-then-out-n : goal.returns-then-out-n
 returns-then-out-n c =
@@ -34,8 +34,8 @@ returns-then-out-n c =
     let old = c.args.old.now in
     let octets : Octets old = λ i. omega (arith, c.type_inv.old i) in
     let both : (_ ≡ (from_old_outcome c.args.old.now (length c.args.out.now)).answer) × (_ ≡ leaves (from_old_outcome c.args.old.now (length c.args.out.now)) c.args.out.now) =
-      refused _ _ _ (from_short old _ octets sound.0 sound.1 (omega arith))
-    in record { value = both.0; out_after = both.1; }
+    refused _ _ _ (from_short old _ octets sound.0 sound.1 (omega arith))
+    in record { value = both.0; out_after = both.1 }
 
 pub write_new-requires : goal.write_new-requires
 write_new-requires c =
@@ -50,5 +50,5 @@ returns c =
     let old = c.args.old.now in
     let octets : Octets old = λ i. omega (arith, c.type_inv.old i) in
     let both : (_ ≡ (from_old_outcome c.args.old.now (length c.args.out.now)).answer) × (_ ≡ leaves (from_old_outcome c.args.old.now (length c.args.out.now)) c.args.out.now) =
-      accepted _ _ _ _ _ (from_done old (length c.args.out.now) octets sound.0 sound.1 (omega arith)) c.write_new.ensures
-    in record { value = both.0; out_after = both.1; }
+    accepted _ _ _ _ _ (from_done old (length c.args.out.now) octets sound.0 sound.1 (omega arith)) c.write_new.ensures
+    in record { value = both.0; out_after = both.1 }

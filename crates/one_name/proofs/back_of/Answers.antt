@@ -12,7 +12,7 @@ use Rattle.one_name.proofs.Shapes.{shape_low, shape_high, shape_within}
 use Rattle.one_name.proofs.back_of.Goals as goal
 
 pub under-requires : goal.under-requires
-under-requires c =    (c.requires.1, c.strip_below.ensures.0)
+under-requires c = (c.requires.1, c.strip_below.ensures.0)
 
 pub returns-then-is_below : goal.returns-then-is_below
 returns-then-is_below c =
@@ -42,7 +42,7 @@ strip_above-requires c =
     (omega (arith, l.some, l.few, l.count), c.requires.1)
 
 pub over-requires : goal.over-requires
-over-requires c =    (c.requires.1, c.strip_above.ensures.0)
+over-requires c = (c.requires.1, c.strip_above.ensures.0)
 
 pub returns-then-is_above : goal.returns-then-is_above
 returns-then-is_above c =

@@ -15,7 +15,7 @@ use Rattle.one_name.specs.Backs.{under_shape}
 use Rattle.one_name.proofs.between.Goals as goal
 
 pub without-requires : goal.without-requires
-without-requires c =    (c.requires.1, c.requires.2)
+without-requires c = (c.requires.1, c.requires.2)
 
 pub against-requires : goal.against-requires
 against-requires c = c.without.ensures.0
@@ -26,7 +26,7 @@ overflow_add-k c =
     omega (arith, length_names log (length log / slot_size))
 
 pub under-requires : goal.under-requires
-under-requires c =    (c.requires.1, c.requires.2)
+under-requires c = (c.requires.1, c.requires.2)
 
 pub returns-in-Less : goal.returns-in-Less
 returns-in-Less c =

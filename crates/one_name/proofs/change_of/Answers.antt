@@ -18,13 +18,13 @@ made_with : (f : Tuple → Change) {p q : ℕ} {t : Tuple} (author : Author) (z 
 made_with f {q = q} author z e g h k = ap f (e ∙ ap (λ (n : ℕ). lead n author z) g) ∙ k ∙ ap (change_of q author) (sym h)
 
 pub numbered-requires : goal.numbered-requires
-numbered-requires c =    subst (λ (q : Case). index_of q < max_slots) c.in-Logged.is c.requires.1
+numbered-requires c = subst (λ (q : Case). index_of q < max_slots) c.in-Logged.is c.requires.1
 
 pub numbered-requires-in-Between : goal.numbered-requires-in-Between
-numbered-requires-in-Between c =    subst (λ (q : Case). index_of q < max_slots) c.in-Between.is c.requires.1
+numbered-requires-in-Between c = subst (λ (q : Case). index_of q < max_slots) c.in-Between.is c.requires.1
 
 pub numbered-requires-in-PutAbove : goal.numbered-requires-in-PutAbove
-numbered-requires-in-PutAbove c =    subst (λ (q : Case). index_of q < max_slots) c.in-PutAbove.is c.requires.1
+numbered-requires-in-PutAbove c = subst (λ (q : Case). index_of q < max_slots) c.in-PutAbove.is c.requires.1
 
 pub returns-in-PutBelow : goal.returns-in-PutBelow
 returns-in-PutBelow c =

@@ -14,7 +14,7 @@ by : {c d : Change} (x : Row) → c ≡ d → changed_by d x ≡ changed_by c x
 by x e = ap (λ (d : Change). changed_by d x) (sym e)
 
 pub returns-in-Kept : goal.returns-in-Kept
-returns-in-Kept c =    gives c.whole.result (by (row_of c.args.x) c.in-Kept.is) c.whole.ensures
+returns-in-Kept c = gives c.whole.result (by (row_of c.args.x) c.in-Kept.is) c.whole.ensures
 
 pub returns-in-Alone : goal.returns-in-Alone
 returns-in-Alone c =

@@ -16,7 +16,7 @@ use Rattle.one_name.proofs.index_of.Goals as goal
 pub natural-requires : goal.natural-requires
 natural-requires c =
     let first : c.read_tuple-t.result.offset ≡ (get_or (row_at c.args.s.now c.args.c) 0 m).offset =
-      let s = c.args.s.now in
+    let s = c.args.s.now in
     let x = c.args.c in
     let z : x.at + tuple_size * 0 ≡ x.at = omega arith in
     ap (λ (t : Tuple). t.offset) (c.read_tuple-t.ensures ∙ sym (get_or_tuples_at s x.at x.count 0 c.requires.1 ∙ ap (tuple_at s) z)) in
@@ -26,7 +26,7 @@ natural-requires c =
 pub returns : goal.returns
 returns c =
     let first : c.read_tuple-t.result.offset ≡ (get_or (row_at c.args.s.now c.args.c) 0 m).offset =
-      let s = c.args.s.now in
+    let s = c.args.s.now in
     let x = c.args.c in
     let z : x.at + tuple_size * 0 ≡ x.at = omega arith in
     ap (λ (t : Tuple). t.offset) (c.read_tuple-t.ensures ∙ sym (get_or_tuples_at s x.at x.count 0 c.requires.1 ∙ ap (tuple_at s) z)) in

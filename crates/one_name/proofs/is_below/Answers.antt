@@ -4,4 +4,4 @@ use Rattle.names.specs.Ordering.{is_less}
 use Rattle.one_name.proofs.is_below.Goals as goal
 
 pub returns : goal.returns
-returns c =    c.is_less.ensures ∙ ap is_less c.compare_to_one.ensures
+returns c = c.is_less.ensures ∙ ap is_less c.compare_to_one.ensures

@@ -22,7 +22,7 @@ turn s p n i h e =
     every_at (λ (t : Tuple). not (marker t)) (tuples_at s p n) i m l (ap not e ∙ sym (ap (λ (t : Tuple). not (marker t)) (get_or_tuples_at s p n i h)))
 
 pub loop-i-init : goal.loop-i-init
-loop-i-init c =    (c.requires.2, c.requires.0.0, refl)
+loop-i-init c = (c.requires.2, c.requires.0.0, refl)
 
 pub loop-i-preserved : goal.loop-i-preserved
 loop-i-preserved c =

@@ -12,7 +12,7 @@ use Rattle.one_name.proofs.natural.Goals as goal
 pub overflow_cast-result : goal.overflow_cast-result
 overflow_cast-result c =
     let at_least : (n : ℕ) × (c.args.z ≡ pos n) × (n < 2 ^ 31) =
-      let z = c.args.z in
+    let z = c.args.z in
     let h = high z (sign z ∙ c.requires) in
     (h.0, h.1, rw h.1 at c.ranges.z.sfits) in
     let n = at_least in
@@ -21,7 +21,7 @@ overflow_cast-result c =
 pub returns : goal.returns
 returns c =
     let at_least : (n : ℕ) × (c.args.z ≡ pos n) × (n < 2 ^ 31) =
-      let z = c.args.z in
+    let z = c.args.z in
     let h = high z (sign z ∙ c.requires) in
     (h.0, h.1, rw h.1 at c.ranges.z.sfits) in
     let n = at_least in

@@ -29,7 +29,7 @@ loop-k-init c =
     (refl, omega arith, λ i k. below_before x (names_of s) o i (omega arith))
 
 pub compare_rows-requires : goal.compare_rows-requires
-compare_rows-requires c =    (c.span_of-r.ensures.0.0, c.requires.1.0)
+compare_rows-requires c = (c.span_of-r.ensures.0.0, c.requires.1.0)
 
 pub loop-k-preserved : goal.loop-k-preserved
 loop-k-preserved c =

@@ -8,4 +8,4 @@ read_row-requires c =
     (v.1, v.0)
 
 pub returns : goal.returns
-returns c =    c.read_row.ensures ∙ c.without-v.ensures.1
+returns c = c.read_row.ensures ∙ c.without-v.ensures.1

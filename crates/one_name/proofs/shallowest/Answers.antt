@@ -12,7 +12,7 @@ use Rattle.one_name.proofs.Depths.{shallowest_all, shallowest_on, shallowest_end
 use Rattle.one_name.proofs.shallowest.Goals as goal
 
 pub loop-k-init : goal.loop-k-init
-loop-k-init c =    (refl, shallowest_all (names_of c.args.page.now), omega arith)
+loop-k-init c = (refl, shallowest_all (names_of c.args.page.now), omega arith)
 
 pub loop-k-preserved : goal.loop-k-preserved
 loop-k-preserved c =

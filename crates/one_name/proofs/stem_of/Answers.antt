@@ -39,8 +39,8 @@ returns-in-Restored c =
     let known = c.logged_stem.ensures in
     let deep : x.depth ≡ length (get_or (names_of log) c.in-Restored.k []) = omega (arith, known.5) in
     let both : Tells s log (row_at s a.c) x c.args.back =
-      subst (Tells s log (row_at s a.c) x) (sym c.in-Restored.is) ((known.0, known.1, deep), in_log s log x known.2 known.3 known.4)
-    in record { behind_value = both.0; stem_lies = both.1; }
+    subst (Tells s log (row_at s a.c) x) (sym c.in-Restored.is) ((known.0, known.1, deep), in_log s log x known.2 known.3 known.4)
+    in record { behind_value = both.0; stem_lies = both.1 }
 
 pub returns-in-Own : goal.returns-in-Own
 returns-in-Own c =
@@ -52,8 +52,8 @@ returns-in-Own c =
     let deep = sym (length_tuples_at s row.at row.count) ∙ ap length known.1 in
     let x : Stem = record { behind = false; ahead = false; logged = false; row = row; depth = row.count } in
     let both : Tells s log (row_at s a.c) x c.args.back =
-      subst (Tells s log (row_at s a.c) x) (sym c.in-Own.is) ((refl, refl, deep), (known.0, known.1))
-    in record { behind_value = both.0; stem_lies = both.1; }
+    subst (Tells s log (row_at s a.c) x) (sym c.in-Own.is) ((refl, refl, deep), (known.0, known.1))
+    in record { behind_value = both.0; stem_lies = both.1 }
 
 pub returns-in-Behind : goal.returns-in-Behind
 returns-in-Behind c =
@@ -66,8 +66,8 @@ returns-in-Behind c =
     let known = c.logged_stem-in-Behind.ensures in
     let deep = known.5 ∙ behind_depth (get_or (names_of log) c.in-Behind.k []) y a.c.count c.in-Behind.cut (length_tuples_at s a.c.at a.c.count) h.1.0 in
     let both : Tells s log (row_at s a.c) x c.args.back =
-      subst (Tells s log y x) (sym c.in-Behind.is) ((known.0, known.1, deep), in_log s log x known.2 known.3 known.4)
-    in record { behind_value = both.0; stem_lies = both.1; }
+    subst (Tells s log y x) (sym c.in-Behind.is) ((known.0, known.1, deep), in_log s log x known.2 known.3 known.4)
+    in record { behind_value = both.0; stem_lies = both.1 }
 
 pub returns-in-Ahead : goal.returns-in-Ahead
 returns-in-Ahead c =
@@ -80,5 +80,5 @@ returns-in-Ahead c =
     let known = c.logged_stem-in-Ahead.ensures in
     let deep = known.5 ∙ ahead_depth (get_or (names_of log) c.in-Ahead.k []) y a.c.count c.in-Ahead.cut (length_tuples_at s a.c.at a.c.count) h.1.0 in
     let both : Tells s log (row_at s a.c) x c.args.back =
-      subst (Tells s log y x) (sym c.in-Ahead.is) ((known.0, known.1, deep), in_log s log x known.2 known.3 known.4)
-    in record { behind_value = both.0; stem_lies = both.1; }
+    subst (Tells s log y x) (sym c.in-Ahead.is) ((known.0, known.1, deep), in_log s log x known.2 known.3 known.4)
+    in record { behind_value = both.0; stem_lies = both.1 }

@@ -23,7 +23,7 @@ without-requires c =
     (c.requires.1, omega (arith, length_tuples_at x.s.now x.c.at x.c.count))
 
 pub is_below-requires : goal.is_below-requires
-is_below-requires c =    c.without.ensures.0
+is_below-requires c = c.without.ensures.0
 
 pub returns-then-is_below : goal.returns-then-is_below
 returns-then-is_below c =

@@ -7,7 +7,7 @@ use Rattle.one_name.proofs.PlaceInLog.{index, index_is}
 use Rattle.one_name.proofs.walk.Goals as goal
 
 pub place_from-place-requires : goal.place_from-place-requires
-place_from-place-requires c =    ((logged c.args.log.now c.requires.0).risen, c.requires.1, c.requires.2)
+place_from-place-requires c = ((logged c.args.log.now c.requires.0).risen, c.requires.1, c.requires.2)
 
 pub returns-in-Here : goal.returns-in-Here
 returns-in-Here c =

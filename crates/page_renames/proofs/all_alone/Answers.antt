@@ -25,7 +25,7 @@ pub loop-i-init : goal.loop-i-init
 loop-i-init c = (refl, refl)
 
 pub is_alone-requires : goal.is_alone-requires
-is_alone-requires c =    (c.requires, c.span_of.ensures.0)
+is_alone-requires c = (c.requires, c.span_of.ensures.0)
 
 pub loop-i-preserved : goal.loop-i-preserved
 loop-i-preserved c =

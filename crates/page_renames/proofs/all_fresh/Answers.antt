@@ -14,7 +14,7 @@ pub loop-k-init : goal.loop-k-init
 loop-k-init c = (refl, omega arith, refl)
 
 pub is_fresh-requires : goal.is_fresh-requires
-is_fresh-requires c =    lent_keeps limit c.args.page.now _ c.loop-k.k c.loop-k-test.true (laid c.args.page.now c.requires).good
+is_fresh-requires c = lent_keeps limit c.args.page.now _ c.loop-k.k c.loop-k-test.true (laid c.args.page.now c.requires).good
 
 pub loop-k-preserved : goal.loop-k-preserved
 loop-k-preserved c =

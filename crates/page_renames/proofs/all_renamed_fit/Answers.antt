@@ -11,7 +11,7 @@ pub loop-i-init : goal.loop-i-init
 loop-i-init c = (refl, omega arith, refl)
 
 pub renamed_fits-requires : goal.renamed_fits-requires
-renamed_fits-requires c =    (c.requires.1, keeps_lent c.args.page.now c.loop-i.i c.loop-i-test.true c.requires.0)
+renamed_fits-requires c = (c.requires.1, keeps_lent c.args.page.now c.loop-i.i c.loop-i-test.true c.requires.0)
 
 pub returns-then-not-renamed_fits : goal.returns-then-not-renamed_fits
 returns-then-not-renamed_fits c =

@@ -27,4 +27,4 @@ returns-then-is_clear c =
     clears (take_back_tests page log a.author) (clear_passes page log a.author (asked page log a.author c.requires.author_value) (sym c.is_clear.ensures ∙ c.if-is_clear.true))
 
 pub check_back-requires : goal.check_back-requires
-check_back-requires c =    c.requires.author_value
+check_back-requires c = c.requires.author_value

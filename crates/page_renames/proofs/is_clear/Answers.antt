@@ -13,7 +13,7 @@ use Rattle.one_name.proofs.CheckedLog.{logged}
 use Rattle.page_renames.proofs.is_clear.Goals as goal
 
 pub all_unmarked-requires : goal.all_unmarked-requires
-all_unmarked-requires c =    ((logged c.args.log.now c.requires.1).layout, c.shallowest-from.ensures.1)
+all_unmarked-requires c = ((logged c.args.log.now c.requires.1).layout, c.shallowest-from.ensures.1)
 
 pub returns-then-not-all_unmarked : goal.returns-then-not-all_unmarked
 returns-then-not-all_unmarked c =
@@ -24,7 +24,7 @@ returns-then-not-all_unmarked c =
     ap (λ (b : Bool). b && every (clear_from c.args.author l (shallowest_of l)) s && leb (deepest_of l + 1 + deepest_of s) limit) marked
 
 pub all_clear-requires : goal.all_clear-requires
-all_clear-requires c =    (c.requires.0, c.requires.1, c.shallowest-from.ensures.1)
+all_clear-requires c = (c.requires.0, c.requires.1, c.shallowest-from.ensures.1)
 
 pub returns-then-not-all_clear : goal.returns-then-not-all_clear
 returns-then-not-all_clear c =

@@ -5,10 +5,10 @@ use Rattle.page_renames.proofs.Freshness.{other_node, same_node}
 use Rattle.page_renames.proofs.is_fresh.Goals as goal
 
 pub read_tuple-t-requires : goal.read_tuple-t-requires
-read_tuple-t-requires c =    omega (arith, (kept c.args.slot.now c.requires).long)
+read_tuple-t-requires c = omega (arith, (kept c.args.slot.now c.requires).long)
 
 pub returns-then-t-author : goal.returns-then-t-author
-returns-then-t-author c =    other_node c.args.author c.args.slot.now c.requires c.read_tuple-t.ensures c.if-t-author.true
+returns-then-t-author c = other_node c.args.author c.args.slot.now c.requires c.read_tuple-t.ensures c.if-t-author.true
 
 pub returns : goal.returns
-returns c =    same_node c.args.author c.args.slot.now c.requires c.read_tuple-t.ensures c.if-t-author.false
+returns c = same_node c.args.author c.args.slot.now c.requires c.read_tuple-t.ensures c.if-t-author.false

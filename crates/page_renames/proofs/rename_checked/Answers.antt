@@ -23,8 +23,8 @@ returns-then-out-page c =
     let room = length a.out.now in
     let fit = renamed_fit s g a.author in
     let both : (_ ≡ (rename_outcome c.args.page.now c.args.log.now c.args.author (length c.args.out.now)).answer) × (_ ≡ leaves (rename_outcome c.args.page.now c.args.log.now c.args.author (length c.args.out.now)) c.args.out.now) =
-      refused _ _ _ (short s g a.author own f fit room c.requires c.check_rename-checked.ensures c.in-Passed.is (omega arith))
-    in record { value = both.0; out_after = both.1; }
+    refused _ _ _ (short s g a.author own f fit room c.requires c.check_rename-checked.ensures c.in-Passed.is (omega arith))
+    in record { value = both.0; out_after = both.1 }
 
 pub write_renamed-requires : goal.write_renamed-requires
 write_renamed-requires c =
@@ -54,8 +54,8 @@ returns-in-Refused c =
     let room = length a.out.now in
     let fit = renamed_fit s g a.author in
     let both : (_ ≡ (rename_outcome c.args.page.now c.args.log.now c.args.author (length c.args.out.now)).answer) × (_ ≡ leaves (rename_outcome c.args.page.now c.args.log.now c.args.author (length c.args.out.now)) c.args.out.now) =
-      refused _ _ _ (own_refused s g a.author own f fit room c.requires c.check_rename-checked.ensures _ c.in-Refused.is)
-    in record { value = both.0; out_after = both.1; }
+    refused _ _ _ (own_refused s g a.author own f fit room c.requires c.check_rename-checked.ensures _ c.in-Refused.is)
+    in record { value = both.0; out_after = both.1 }
 
 pub returns-else-out-page : goal.returns-else-out-page
 unfolding rename_outcome
@@ -69,5 +69,5 @@ returns-else-out-page c =
     let fit = renamed_fit s g a.author in
     let whole = done s g a.author own f fit room c.requires c.check_rename-checked.ensures c.in-Passed.is (omega arith) in
     let both : (_ ≡ (rename_outcome c.args.page.now c.args.log.now c.args.author (length c.args.out.now)).answer) × (_ ≡ leaves (rename_outcome c.args.page.now c.args.log.now c.args.author (length c.args.out.now)) c.args.out.now) =
-      accepted _ _ _ _ _ whole c.write_renamed.ensures
-    in record { value = both.0; out_after = both.1; }
+    accepted _ _ _ _ _ whole c.write_renamed.ensures
+    in record { value = both.0; out_after = both.1 }

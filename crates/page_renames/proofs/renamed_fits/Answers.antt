@@ -29,7 +29,7 @@ full (Alone t) x e = refl
 full (Led t) x e = lt-leb (suc (length x)) limit (omega arith)
 
 pub depth-count-requires : goal.depth-count-requires
-depth-count-requires c =    omega (arith, (kept c.args.slot.now c.requires.1).long)
+depth-count-requires c = omega (arith, (kept c.args.slot.now c.requires.1).long)
 
 pub returns-then-count-lt-LIMIT : goal.returns-then-count-lt-LIMIT
 returns-then-count-lt-LIMIT c =
@@ -42,7 +42,7 @@ returns-then-count-lt-LIMIT c =
     sym (le-leb (length (rename a.author l (name_of s))) limit h)
 
 pub find-place-requires : goal.find-place-requires
-find-place-requires c =    ((kept c.args.slot.now c.requires.1).long, (logged c.args.log.now c.requires.0).risen)
+find-place-requires c = ((kept c.args.slot.now c.requires.1).long, (logged c.args.log.now c.requires.0).risen)
 
 pub case_at-case-requires : goal.case_at-case-requires
 case_at-case-requires c =
@@ -54,7 +54,7 @@ case_at-case-requires c =
     (c.requires.0, (omega arith, omega arith), c.find-place.ensures ∙ ap (λ (x : Row). place_of x (names_of c.args.log.now)) (sym row))
 
 pub change_of-requires : goal.change_of-requires
-change_of-requires c =    (c.requires.0, case_index c.args.log.now c.args.author _ c.requires.0 c.case_at-case.result c.case_at-case.ensures)
+change_of-requires c = (c.requires.0, case_index c.args.log.now c.args.author _ c.requires.0 c.case_at-case.result c.case_at-case.ensures)
 
 pub returns : goal.returns
 returns c =

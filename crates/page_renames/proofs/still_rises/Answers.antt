@@ -29,7 +29,7 @@ returns-then-i-lt1 c =
     λ k. sym c.if-not-rises.false k && (sym (lt-ltb x.i 1 c.if-i-lt1.true) k || less)
 
 pub may_meet-requires : goal.may_meet-requires
-may_meet-requires c =    (c.requires.stem_lies.0 (omega (arith, c.if-i-lt1.false)), c.requires.stem_lies.1)
+may_meet-requires c = (c.requires.stem_lies.0 (omega (arith, c.if-i-lt1.false)), c.requires.stem_lies.1)
 
 -- they could not meet
 pub returns-then-not-may_meet : goal.returns-then-not-may_meet

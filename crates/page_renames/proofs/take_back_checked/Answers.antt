@@ -36,8 +36,8 @@ returns-then-out-page c =
     let room = length a.out.now in
     let fit = back_fit s g a.author in
     let both : (_ ≡ (take_back_outcome c.args.page.now c.args.log.now c.args.author (length c.args.out.now)).answer) × (_ ≡ leaves (take_back_outcome c.args.page.now c.args.log.now c.args.author (length c.args.out.now)) c.args.out.now) =
-      refused _ _ _ (short s g a.author own f fit room c.requires c.check_names-checked.ensures c.in-Passed.is (omega arith))
-    in record { value = both.0; out_after = both.1; }
+    refused _ _ _ (short s g a.author own f fit room c.requires c.check_names-checked.ensures c.in-Passed.is (omega arith))
+    in record { value = both.0; out_after = both.1 }
 
 pub write_back-requires : goal.write_back-requires
 write_back-requires c =
@@ -68,8 +68,8 @@ returns-in-Refused c =
     let room = length a.out.now in
     let fit = back_fit s g a.author in
     let both : (_ ≡ (take_back_outcome c.args.page.now c.args.log.now c.args.author (length c.args.out.now)).answer) × (_ ≡ leaves (take_back_outcome c.args.page.now c.args.log.now c.args.author (length c.args.out.now)) c.args.out.now) =
-      refused _ _ _ (own_refused s g a.author own f fit room c.requires c.check_names-checked.ensures _ c.in-Refused.is)
-    in record { value = both.0; out_after = both.1; }
+    refused _ _ _ (own_refused s g a.author own f fit room c.requires c.check_names-checked.ensures _ c.in-Refused.is)
+    in record { value = both.0; out_after = both.1 }
 
 pub returns-else-out-page : goal.returns-else-out-page
 unfolding take_back_outcome
@@ -83,5 +83,5 @@ returns-else-out-page c =
     let fit = back_fit s g a.author in
     let whole = done s g a.author own f fit room c.requires c.check_names-checked.ensures c.in-Passed.is (omega arith) in
     let both : (_ ≡ (take_back_outcome c.args.page.now c.args.log.now c.args.author (length c.args.out.now)).answer) × (_ ≡ leaves (take_back_outcome c.args.page.now c.args.log.now c.args.author (length c.args.out.now)) c.args.out.now) =
-      accepted _ _ _ _ _ whole c.write_back.ensures
-    in record { value = both.0; out_after = both.1; }
+    accepted _ _ _ _ _ whole c.write_back.ensures
+    in record { value = both.0; out_after = both.1 }

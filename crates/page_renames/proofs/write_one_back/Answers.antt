@@ -51,7 +51,7 @@ write_single-requires c =
     (omega arith, keeps_lent a.page.now a.i c.requires.page_value.2 c.requires.page_value.0, c.requires.page_value.1, m.0)
 
 pub back_of-back-requires : goal.back_of-back-requires
-back_of-back-requires c =    (c.requires.page_value.1, c.span_of-c.ensures.0)
+back_of-back-requires c = (c.requires.page_value.1, c.span_of-c.ensures.0)
 
 pub write_back-requires : goal.write_back-requires
 write_back-requires c =

@@ -26,7 +26,7 @@ walk-w-requires c =
     (c.requires.page_value.2, x.0, subst (λ (a : Row). c.loop-i.j ≤ below a l) (sym x.1) (c.loop-i.invariant.4 (omega arith)))
 
 pub change_of-change-requires : goal.change_of-change-requires
-change_of-change-requires c =    (c.requires.page_value.2, c.walk-w.ensures.2)
+change_of-change-requires c = (c.requires.page_value.2, c.walk-w.ensures.2)
 
 pub write_changed-requires : goal.write_changed-requires
 write_changed-requires c =

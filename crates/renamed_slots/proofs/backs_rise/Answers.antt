@@ -49,10 +49,10 @@ loop-i-init c =
     (e, f, λ i. is_less (compare_rows (take_all n a (omega (arith, e)) i) (take_all k b (omega (arith, f)) i)))
 
 pub tuple_back-requires : goal.tuple_back-requires
-tuple_back-requires c =    (c.requires.first_value.0, c.requires.first_value.2, c.requires.stands.0, omega (arith, c.if-n-i.false, c.loop-i.invariant.0))
+tuple_back-requires c = (c.requires.first_value.0, c.requires.first_value.2, c.requires.stands.0, omega (arith, c.if-n-i.false, c.loop-i.invariant.0))
 
 pub tuple_back-requires-in-loop-i : goal.tuple_back-requires-in-loop-i
-tuple_back-requires-in-loop-i c =    (c.requires.first_value.1, c.requires.first_value.2, c.requires.stands.1, omega (arith, c.if-m-i.false, c.loop-i.invariant.1))
+tuple_back-requires-in-loop-i c = (c.requires.first_value.1, c.requires.first_value.2, c.requires.stands.1, omega (arith, c.if-m-i.false, c.loop-i.invariant.1))
 
 pub loop-i-preserved : goal.loop-i-preserved
 loop-i-preserved c =

@@ -10,7 +10,7 @@ use Rattle.slots.proofs.NameTests.{name_over_lem}
 use Rattle.renamed_slots.proofs.name_in.Goals as goal
 
 pub depth-count-requires : goal.depth-count-requires
-depth-count-requires c =    omega (arith, (kept c.args.slot.now c.requires).long)
+depth-count-requires c = omega (arith, (kept c.args.slot.now c.requires).long)
 
 pub returns : goal.returns
 returns c =

@@ -48,8 +48,8 @@ write_joint-requires c =
     let s = x.slot.now in
     let l = names_of x.log.now in
     let e : x.back ≡ joint c.match-back.joint = elim c.match-back.branch [
-      in-Behind w ↦ w.in-Behind.is ∙ ap joint (sym w.joint-is)
-    | in-Ahead w ↦ w.in-Ahead.is ∙ ap joint (sym w.joint-is)
+      | in-Behind w ↦ w.in-Behind.is ∙ ap joint (sym w.joint-is)
+      | in-Ahead w ↦ w.in-Ahead.is ∙ ap joint (sym w.joint-is)
     ] in
     (c.requires.0, c.requires.1, c.requires.2, subst (Stands (name_of s) l) e c.requires.3, ap (λ (q : Back). fits (shaped (name_of s) l q)) (sym e) ∙ c.requires.4)
 
@@ -57,7 +57,7 @@ pub returns : goal.returns
 returns c =
     let x = c.args in
     let e : x.back ≡ joint c.match-back.joint = elim c.match-back.branch [
-      in-Behind w ↦ w.in-Behind.is ∙ ap joint (sym w.joint-is)
-    | in-Ahead w ↦ w.in-Ahead.is ∙ ap joint (sym w.joint-is)
+      | in-Behind w ↦ w.in-Behind.is ∙ ap joint (sym w.joint-is)
+      | in-Ahead w ↦ w.in-Ahead.is ∙ ap joint (sym w.joint-is)
     ] in
     c.write_joint.ensures ∙ ap (written x.out.now x.p x.slot.now x.log.now) (sym e)

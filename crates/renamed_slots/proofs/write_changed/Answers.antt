@@ -16,10 +16,10 @@ use Rattle.renamed_slots.proofs.CopiedTuples.{name_length}
 use Rattle.renamed_slots.proofs.write_changed.Goals as goal
 
 pub copy-requires : goal.copy-requires
-copy-requires c =    omega (arith, (kept c.args.slot.now c.requires.1).long)
+copy-requires c = omega (arith, (kept c.args.slot.now c.requires.1).long)
 
 pub write_alone-requires : goal.write_alone-requires
-write_alone-requires c =    (c.requires.0, (kept c.args.slot.now c.requires.1).long)
+write_alone-requires c = (c.requires.0, (kept c.args.slot.now c.requires.1).long)
 
 pub write_led-requires : goal.write_led-requires
 write_led-requires c =

@@ -25,19 +25,19 @@ overflow_sub-first c =
     omega (arith, count_of log c.span_of-r.result c.span_of-r.ensures.1, logged_long log c.args.k c.requires.log_value.0 c.requires.log_value.1)
 
 pub overflow_mul-from : goal.overflow_mul-from
-overflow_mul-from c =    omega (arith, (logged c.args.log.now c.requires.log_value.0).count, c.requires.log_value.1)
+overflow_mul-from c = omega (arith, (logged c.args.log.now c.requires.log_value.0).count, c.requires.log_value.1)
 
 pub overflow_add-from : goal.overflow_add-from
-overflow_add-from c =    omega (arith, (logged c.args.log.now c.requires.log_value.0).count, c.requires.log_value.1)
+overflow_add-from c = omega (arith, (logged c.args.log.now c.requires.log_value.0).count, c.requires.log_value.1)
 
 pub overflow_mul-to : goal.overflow_mul-to
-overflow_mul-to c =    omega (arith, (logged c.args.log.now c.requires.log_value.0).count, c.requires.log_value.1)
+overflow_mul-to c = omega (arith, (logged c.args.log.now c.requires.log_value.0).count, c.requires.log_value.1)
 
 pub overflow_add-to : goal.overflow_add-to
-overflow_add-to c =    omega (arith, (logged c.args.log.now c.requires.log_value.0).count, c.requires.log_value.1)
+overflow_add-to c = omega (arith, (logged c.args.log.now c.requires.log_value.0).count, c.requires.log_value.1)
 
 pub read_line-requires : goal.read_line-requires
-read_line-requires c =    (kept c.args.slot.now c.requires.slot_size_in_bounds.1).long
+read_line-requires c = (kept c.args.slot.now c.requires.slot_size_in_bounds.1).long
 
 pub write_head-requires : goal.write_head-requires
 write_head-requires c =
@@ -46,7 +46,7 @@ write_head-requires c =
     (omega (arith, c.requires.slot_size_in_bounds.0), omega (arith, c.requires.log_value.2))
 
 pub slice_bounds-copy-end : goal.slice_bounds-copy-end
-slice_bounds-copy-end c =    omega (arith, (logged c.args.log.now c.requires.log_value.0).count, c.requires.log_value.1)
+slice_bounds-copy-end c = omega (arith, (logged c.args.log.now c.requires.log_value.0).count, c.requires.log_value.1)
 
 pub overflow_add-end-3 : goal.overflow_add-end-3
 overflow_add-end-3 c =

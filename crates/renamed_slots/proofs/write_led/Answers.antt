@@ -14,13 +14,13 @@ use Rattle.renamed_slots.proofs.CopiedTuples.{run, name_length, put_two, slot_of
 use Rattle.renamed_slots.proofs.write_led.Goals as goal
 
 pub depth-requires : goal.depth-requires
-depth-requires c =    omega (arith, (kept c.args.slot.now c.requires.1).long)
+depth-requires c = omega (arith, (kept c.args.slot.now c.requires.1).long)
 
 pub read_line-requires : goal.read_line-requires
-read_line-requires c =    (kept c.args.slot.now c.requires.1).long
+read_line-requires c = (kept c.args.slot.now c.requires.1).long
 
 pub slice_bounds-copy-end : goal.slice_bounds-copy-end
-slice_bounds-copy-end c =    omega (arith, (kept c.args.slot.now c.requires.1).long)
+slice_bounds-copy-end c = omega (arith, (kept c.args.slot.now c.requires.1).long)
 
 pub returns : goal.returns
 returns c =

@@ -14,16 +14,16 @@ use Rattle.renamed_slots.proofs.CopiedTuples.{run, name_length, slot_of}
 use Rattle.renamed_slots.proofs.write_name_of.Goals as goal
 
 pub depth-requires : goal.depth-requires
-depth-requires c =    omega (arith, (kept c.args.other.now c.requires.2).long)
+depth-requires c = omega (arith, (kept c.args.other.now c.requires.2).long)
 
 pub slice_bounds-copy-count : goal.slice_bounds-copy-count
-slice_bounds-copy-count c =    omega (arith, (kept c.args.other.now c.requires.2).long)
+slice_bounds-copy-count c = omega (arith, (kept c.args.other.now c.requires.2).long)
 
 pub slice_bounds-copy-start : goal.slice_bounds-copy-start
-slice_bounds-copy-start c =    omega (arith, (kept c.args.other.now c.requires.2).long)
+slice_bounds-copy-start c = omega (arith, (kept c.args.other.now c.requires.2).long)
 
 pub copy-requires : goal.copy-requires
-copy-requires c =    omega (arith, (kept c.args.other.now c.requires.2).long)
+copy-requires c = omega (arith, (kept c.args.other.now c.requires.2).long)
 
 pub returns : goal.returns
 returns c =

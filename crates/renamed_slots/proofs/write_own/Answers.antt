@@ -9,7 +9,7 @@ use Rattle.slots.proofs.RoundTrip.{kept, bytes_back}
 use Rattle.renamed_slots.proofs.write_own.Goals as goal
 
 pub copy-requires : goal.copy-requires
-copy-requires c =    omega (arith, (kept c.args.slot.now c.requires.1).long)
+copy-requires c = omega (arith, (kept c.args.slot.now c.requires.1).long)
 
 pub returns-then-cut-lt1 : goal.returns-then-cut-lt1
 returns-then-cut-lt1 c =

@@ -13,7 +13,7 @@ use Rattle.renamed_slots.proofs.CopiedTuples.{run, name_length, put_two, slot_of
 use Rattle.renamed_slots.proofs.write_tail.Goals as goal
 
 pub depth-requires : goal.depth-requires
-depth-requires c =    omega (arith, (kept c.args.slot.now c.requires.1).long)
+depth-requires c = omega (arith, (kept c.args.slot.now c.requires.1).long)
 
 pub overflow_sub-depth : goal.overflow_sub-depth
 overflow_sub-depth c =
@@ -21,16 +21,16 @@ overflow_sub-depth c =
     omega (arith, v.deep, c.depth.ensures)
 
 pub read_line-requires : goal.read_line-requires
-read_line-requires c =    (kept c.args.slot.now c.requires.1).long
+read_line-requires c = (kept c.args.slot.now c.requires.1).long
 
 pub slice_bounds-copy-count : goal.slice_bounds-copy-count
-slice_bounds-copy-count c =    omega (arith, (kept c.args.slot.now c.requires.1).long)
+slice_bounds-copy-count c = omega (arith, (kept c.args.slot.now c.requires.1).long)
 
 pub slice_bounds-copy-start : goal.slice_bounds-copy-start
-slice_bounds-copy-start c =    omega (arith, (kept c.args.slot.now c.requires.1).long)
+slice_bounds-copy-start c = omega (arith, (kept c.args.slot.now c.requires.1).long)
 
 pub copy-requires : goal.copy-requires
-copy-requires c =    omega (arith, (kept c.args.slot.now c.requires.1).long)
+copy-requires c = omega (arith, (kept c.args.slot.now c.requires.1).long)
 
 pub returns : goal.returns
 returns c =
