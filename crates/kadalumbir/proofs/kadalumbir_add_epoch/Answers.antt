@@ -6,7 +6,7 @@ use Rattle.kadalumbir.proofs.Counts.{add_count}
 use Rattle.kadalumbir.proofs.kadalumbir_add_epoch.Goals as goal
 
 pub pack-requires : goal.pack-requires
-pack-requires c =    rw c.add.ensures.value (add_count c.args.table.now c.args.parent (record { node = c.args.node; sequence = c.args.sequence }) c.args.count (length c.args.out.now))
+pack-requires c = rw c.add.ensures.value (add_count c.args.table.now c.args.parent (record { node = c.args.node; sequence = c.args.sequence }) c.args.count (length c.args.out.now))
 
 pub returns : goal.returns
 returns c =

@@ -5,7 +5,7 @@ use Rattle.kadalumbir.proofs.Counts.{check_log_count}
 use Rattle.kadalumbir.proofs.kadalumbir_check_log.Goals as goal
 
 pub pack-requires : goal.pack-requires
-pack-requires c =    rw c.check_log.ensures (check_log_count c.args.log.now)
+pack-requires c = rw c.check_log.ensures (check_log_count c.args.log.now)
 
 pub returns : goal.returns
-returns c =    c.pack.ensures ∙ ap packed c.check_log.ensures
+returns c = c.pack.ensures ∙ ap packed c.check_log.ensures

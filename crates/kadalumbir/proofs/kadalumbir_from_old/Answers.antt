@@ -6,7 +6,7 @@ use Rattle.kadalumbir.proofs.Counts.{from_old_count}
 use Rattle.kadalumbir.proofs.kadalumbir_from_old.Goals as goal
 
 pub pack-requires : goal.pack-requires
-pack-requires c =    rw c.from_old.ensures.value (from_old_count c.args.old.now (length c.args.out.now))
+pack-requires c = rw c.from_old.ensures.value (from_old_count c.args.old.now (length c.args.out.now))
 
 pub returns : goal.returns
 returns c =

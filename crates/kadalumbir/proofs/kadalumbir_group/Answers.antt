@@ -6,7 +6,7 @@ use Rattle.kadalumbir.proofs.Counts.{group_count}
 use Rattle.kadalumbir.proofs.kadalumbir_group.Goals as goal
 
 pub pack-requires : goal.pack-requires
-pack-requires c =    rw c.group.ensures.value (group_count c.args.page.now (length c.args.out.now))
+pack-requires c = rw c.group.ensures.value (group_count c.args.page.now (length c.args.out.now))
 
 pub returns : goal.returns
 returns c =

@@ -6,7 +6,7 @@ use Rattle.kadalumbir.proofs.Counts.{insert_form_count}
 use Rattle.kadalumbir.proofs.kadalumbir_group_insert.Goals as goal
 
 pub pack-requires : goal.pack-requires
-pack-requires c =    rw c.insert.ensures.value (insert_form_count c.args.form.now c.args.slot.now (length c.args.out.now))
+pack-requires c = rw c.insert.ensures.value (insert_form_count c.args.form.now c.args.slot.now (length c.args.out.now))
 
 pub returns : goal.returns
 returns c =

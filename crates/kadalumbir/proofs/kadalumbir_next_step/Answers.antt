@@ -13,7 +13,7 @@ overflow_cast-index c =
     omega arith
 
 pub pack-requires : goal.pack-requires
-pack-requires c =    rw c.answer.ensures (step_count c.next_step-next.result)
+pack-requires c = rw c.answer.ensures (step_count c.next_step-next.result)
 
 pub returns : goal.returns
 returns c =

@@ -6,7 +6,7 @@ use Rattle.kadalumbir.proofs.Counts.{read_message_count}
 use Rattle.kadalumbir.proofs.kadalumbir_read_message.Goals as goal
 
 pub pack-requires : goal.pack-requires
-pack-requires c =    rw c.read-read.ensures.answer_value.0 (read_message_count c.args.message.now (length c.args.out.now))
+pack-requires c = rw c.read-read.ensures.answer_value.0 (read_message_count c.args.message.now (length c.args.out.now))
 
 pub returns : goal.returns
 returns c =

@@ -6,7 +6,7 @@ use Rattle.kadalumbir.proofs.Counts.{rename_count}
 use Rattle.kadalumbir.proofs.kadalumbir_rename.Goals as goal
 
 pub pack-requires : goal.pack-requires
-pack-requires c =    rw c.rename.ensures.value (rename_count c.args.page.now c.args.log.now (record { node = c.args.node; sequence = c.args.sequence }) (length c.args.out.now))
+pack-requires c = rw c.rename.ensures.value (rename_count c.args.page.now c.args.log.now (record { node = c.args.node; sequence = c.args.sequence }) (length c.args.out.now))
 
 pub returns : goal.returns
 returns c =

@@ -6,7 +6,7 @@ use Rattle.kadalumbir.proofs.Counts.{take_back_count}
 use Rattle.kadalumbir.proofs.kadalumbir_take_back.Goals as goal
 
 pub pack-requires : goal.pack-requires
-pack-requires c =    rw c.take_back.ensures.value (take_back_count c.args.page.now c.args.log.now (record { node = c.args.node; sequence = c.args.sequence }) (length c.args.out.now))
+pack-requires c = rw c.take_back.ensures.value (take_back_count c.args.page.now c.args.log.now (record { node = c.args.node; sequence = c.args.sequence }) (length c.args.out.now))
 
 pub returns : goal.returns
 returns c =

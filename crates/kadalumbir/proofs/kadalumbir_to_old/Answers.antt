@@ -6,7 +6,7 @@ use Rattle.kadalumbir.proofs.Counts.{to_old_count}
 use Rattle.kadalumbir.proofs.kadalumbir_to_old.Goals as goal
 
 pub pack-requires : goal.pack-requires
-pack-requires c =    rw c.to_old.ensures.value (to_old_count c.args.page.now (length c.args.out.now))
+pack-requires c = rw c.to_old.ensures.value (to_old_count c.args.page.now (length c.args.out.now))
 
 pub returns : goal.returns
 returns c =

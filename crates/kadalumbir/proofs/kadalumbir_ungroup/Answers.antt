@@ -6,7 +6,7 @@ use Rattle.kadalumbir.proofs.Counts.{ungroup_count}
 use Rattle.kadalumbir.proofs.kadalumbir_ungroup.Goals as goal
 
 pub pack-requires : goal.pack-requires
-pack-requires c =    rw c.ungroup.ensures.value (ungroup_count c.args.form.now (length c.args.out.now))
+pack-requires c = rw c.ungroup.ensures.value (ungroup_count c.args.form.now (length c.args.out.now))
 
 pub returns : goal.returns
 returns c =

@@ -6,7 +6,7 @@ use Rattle.kadalumbir.proofs.Counts.{write_message_count}
 use Rattle.kadalumbir.proofs.kadalumbir_write_message.Goals as goal
 
 pub pack-requires : goal.pack-requires
-pack-requires c =    rw c.write.ensures.value (write_message_count (numbers c.args.kind c.args.epoch_node c.args.epoch_sequence c.args.author_node c.args.author_sequence c.args.line) c.args.names.now (length c.args.out.now))
+pack-requires c = rw c.write.ensures.value (write_message_count (numbers c.args.kind c.args.epoch_node c.args.epoch_sequence c.args.author_node c.args.author_sequence c.args.line) c.args.names.now (length c.args.out.now))
 
 pub returns : goal.returns
 returns c =

@@ -18,19 +18,19 @@ returns-then-out-lt-SLOT c =
     let o = c.args.out.now in
     let s : named (Accepted c.in-Accepted.n) (row_of c.args.name) (length o) ≡ refuse Short = simp (lt-leb slot_size (length o) c.if-out-lt-SLOT.true) in
     let both : (_ ≡ (named c.args.answer (row_of c.args.name) (length c.args.out.now)).answer) × (_ ≡ leaves (named c.args.answer (row_of c.args.name) (length c.args.out.now)) c.args.out.now) =
-      refused _ _ o (ap (λ (a : Answer). named a (row_of c.args.name) (length c.args.out.now)) c.in-Accepted.is ∙ s)
-    in record { value = both.0; out_after = both.1; }
+    refused _ _ o (ap (λ (a : Answer). named a (row_of c.args.name) (length c.args.out.now)) c.in-Accepted.is ∙ s)
+    in record { value = both.0; out_after = both.1 }
 
 pub returns-in-Refused : goal.returns-in-Refused
 returns-in-Refused c =
     let both : (_ ≡ (named c.args.answer (row_of c.args.name) (length c.args.out.now)).answer) × (_ ≡ leaves (named c.args.answer (row_of c.args.name) (length c.args.out.now)) c.args.out.now) =
-      refused _ _ _ (ap (λ (a : Answer). named a (row_of c.args.name) (length c.args.out.now)) c.in-Refused.is)
-    in record { value = both.0; out_after = both.1; }
+    refused _ _ _ (ap (λ (a : Answer). named a (row_of c.args.name) (length c.args.out.now)) c.in-Refused.is)
+    in record { value = both.0; out_after = both.1 }
 
 pub returns-else-out-lt-SLOT : goal.returns-else-out-lt-SLOT
 returns-else-out-lt-SLOT c =
     let o = c.args.out.now in
     let s : named (Accepted c.in-Accepted.n) (row_of c.args.name) (length o) ≡ record { answer = Accepted c.in-Accepted.n; bytes = slot_bytes (record { line = 0; name = row_of c.args.name }) } = simp (le-leb slot_size (length o) c.if-out-lt-SLOT.false) in
     let both : (_ ≡ (named c.args.answer (row_of c.args.name) (length c.args.out.now)).answer) × (_ ≡ leaves (named c.args.answer (row_of c.args.name) (length c.args.out.now)) c.args.out.now) =
-      accepted _ _ _ o _ (ap (λ (a : Answer). named a (row_of c.args.name) (length c.args.out.now)) c.in-Accepted.is ∙ s) c.write_slot.ensures
-    in record { value = both.0; out_after = both.1; }
+    accepted _ _ _ o _ (ap (λ (a : Answer). named a (row_of c.args.name) (length c.args.out.now)) c.in-Accepted.is ∙ s) c.write_slot.ensures
+    in record { value = both.0; out_after = both.1 }
