@@ -627,7 +627,7 @@ fn is_clear(log: &[u8], author: Author, s: &[u8], c: Span, from: usize) -> bool
 }
 
 // So it is of every name of the page. Where the log has none from there on either, and no name of fewer tuples, no two names could meet: that is a theorem,
-// `Clear-kept` (proofs/Neighbours.antt; in specs/Laws.antt `Clear-kept`).
+// `clear_kept` (proofs/Neighbours.antt; in specs/Laws.antt `clear_kept`).
 pub fn all_clear(page: &[u8], log: &[u8], author: Author, from: usize) -> bool
     requires { (keeps_layout page.now ≡ true) × (is_log log.now ≡ true) × (from ≤ limit) }
     ensures { result ≡ every (clear_from author (names_of log.now) from) (names_of page.now) }

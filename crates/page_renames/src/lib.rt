@@ -308,7 +308,7 @@ fn is_clear(page: &[u8], log: &[u8], author: Author) -> bool
 
 // 6, 7, where a theorem does not answer both for the whole page. If every name is taken back alone, each has at most LIMIT tuples and they rise, markers
 // or not: `alone_fits` and `alone_mono` (name_renames/proofs/Alone.antt; in specs/Laws.antt `alone_is` and `alone_kept`). If page and log are clear, so
-// it is by `back_depth` (name_renames/proofs/BackDepth.antt) and `Clear-kept` (one_name/proofs/Neighbours.antt; in specs/Laws.antt `Clear-kept`).
+// it is by `back_depth` (name_renames/proofs/BackDepth.antt) and `clear_kept` (one_name/proofs/Neighbours.antt; in specs/Laws.antt `clear_kept`).
 fn check_names(page: &[u8], log: &[u8], author: Author, alone: bool) -> Checked
     requires author_value { in_order (opening_tests page.now log.now author) Checked.Refused Checked.Passed ≡ Checked.Passed }
     requires page_value { alone ≡ true → every (is_alone author (names_of log.now)) (names_of page.now) ≡ true }

@@ -47,7 +47,7 @@ find_index_of_pred id (r ∷ q ∷ rest) = if_below q id (suc (find_index_of_pre
 
 -- "ISRENAMEDID : Indicates if the given id is part of the block resulting of the rename operation, i.e. id is of the form
 -- pos_offset^(nId nSeq)". Reading: the offset is one of 0..length−1, for which algorithm 2 hands over length. Appendix A does not
--- say it, and then an id after new_last_id would read renamedIds past its end.
+-- say it, and then an id after newLastId would read renamedIds past its end.
 unfoldable pub is_renamed_id : Row → ℕ → Author → ℕ → Bool
 is_renamed_id [] p author n = false
 is_renamed_id (t ∷ []) p author n = is_same (compare_tuples t (lead p author t.offset)) && lt_z t.offset (pos n) && non_neg t.offset
@@ -86,52 +86,52 @@ is_prefix [] (t ∷ b) = true
 is_prefix (s ∷ a) (t ∷ b) = is_same (compare_tuples t s) && is_prefix a b
 
 module _ (renamedIds : List Row) where
-  -- "first_id ← renamedIds[0]"
+  -- "firstId ← renamedIds[0]"
   abbrev pub first_id : Row
   first_id = id_at renamedIds 0
 
-  -- "last_id ← renamedIds[length - 1]"
+  -- "lastId ← renamedIds[length - 1]"
   abbrev pub last_id : Row
   last_id = id_at renamedIds (length renamedIds - 1)
 
   module _ (author : Author) where
-    -- "new_first_id ← new Id(pos, nId, nSeq, 0)", with "pos ← position(first_id)"
+    -- "newFirstId ← new Id(pos, nId, nSeq, 0)", with "pos ← position(firstId)"
     abbrev pub new_first_id : Row
     new_first_id = new_id (first_position renamedIds) author (pos 0)
 
-    -- "pred_new_first_id ← create_id_from_base(new_first_id, -1)"
+    -- "predNewFirstId ← createIdFromBase(newFirstId, -1)"
     abbrev pub pred_new_first_id : Row
     pred_new_first_id = new_id (first_position renamedIds) author (negsuc 0)
 
-    -- "new_last_id ← new Id(pos, nId, nSeq, length - 1)"
+    -- "newLastId ← new Id(pos, nId, nSeq, length - 1)"
     abbrev pub new_last_id : Row
     new_last_id = new_id (first_position renamedIds) author (pos (length renamedIds - 1))
 
 -- ── renaming: algorithm 1, and algorithm 3 of appendix B ──
 
--- function RENIDLESSTHANFIRSTID(id, new_first_id)
---   "if id < new_first_id then return id"
---   "else .. pred_new_first_id ← new Id(pos, nId, nSeq, -1)", with pos, nId and nSeq of new_first_id, "return concat(pred_new_first_id, id)"
+-- function RENIDLESSTHANFIRSTID(id, newFirstId)
+--   "if id < newFirstId then return id"
+--   "else .. predNewFirstId ← new Id(pos, nId, nSeq, -1)", with pos, nId and nSeq of newFirstId, "return concat(predNewFirstId, id)"
 unfoldable pub ren_id_less_than_first_id : Row → Row → Row
 ren_id_less_than_first_id id new_first = if_below id new_first id (create_id_from_base new_first (negsuc 0) ++ id)
 
--- function RENIDGREATERTHANLASTID(id, new_last_id)
---   "if id < new_last_id then return concat(new_last_id, id)"
+-- function RENIDGREATERTHANLASTID(id, newLastId)
+--   "if id < newLastId then return concat(newLastId, id)"
 --   "else return id"
 unfoldable pub ren_id_greater_than_last_id : Row → Row → Row
 ren_id_greater_than_last_id id new_last = if_below id new_last (new_last ++ id) id
 
 -- function RENIDFROMPREDID(id, renamedIds, pos, nId, nSeq)
---   "index ← find_index(id, renamedIds)". Reading: find_index_of_pred, since id is not in renamedIds and section 4.2 names the predecessor.
+--   "index ← findIndex(id, renamedIds)". Reading: findIndexOfPred, since id is not in renamedIds and section 4.2 names the predecessor.
 --   "newPredId ← new Id(pos, nId, nSeq, index)", "return concat(newPredId, id)"
 unfoldable pub ren_id_from_pred_id : Row → List Row → Author → Row
 ren_id_from_pred_id id renamedIds author = new_id (first_position renamedIds) author (pos (find_index_of_pred id renamedIds)) ++ id
 
 -- function RENAMEID(id, renamedIds, nId, nSeq)
---   "if id < first_id then .. return ren_id_less_than_first_id(id, new_first_id)"
---   "else if id ∈ renamedIds then index ← find_index(id, renamedIds), return new Id(pos, nId, nSeq, index)"
---   "else if last_id < id then .. return ren_id_greater_than_last_id(id, new_last_id)"
---   "else return ren_id_from_pred_id(id, renamedIds, pos, nId, nSeq)"
+--   "if id < firstId then .. return renIdLessThanFirstId(id, newFirstId)"
+--   "else if id ∈ renamedIds then index ← findIndex(id, renamedIds), return new Id(pos, nId, nSeq, index)"
+--   "else if lastId < id then .. return renIdGreaterThanLastId(id, newLastId)"
+--   "else return renIdFromPredId(id, renamedIds, pos, nId, nSeq)"
 unfoldable pub rename_id : Row → List Row → Author → Row
 rename_id id renamedIds author =
     if_below id (first_id renamedIds) (ren_id_less_than_first_id id (new_first_id renamedIds author))
@@ -140,11 +140,11 @@ rename_id id renamedIds author =
 
 -- ── reverting: algorithm 2, and algorithm 4 of appendix C ──
 
--- function REVRENIDLESSTHANNEWFIRSTID(id, first_id, new_first_id)
---   "pred_new_first_id ← create_id_from_base(new_first_id, -1)"
---   "if is_prefix(pred_new_first_id, id) then tail ← get_tail(id, 1)"
---     "if tail < first_id then return tail"
---     "else .. offset ← get_last_offset(first_id), predFirstId ← create_id_from_base(first_id, offset)"
+-- function REVRENIDLESSTHANNEWFIRSTID(id, firstId, newFirstId)
+--   "predNewFirstId ← createIdFromBase(newFirstId, -1)"
+--   "if isPrefix(predNewFirstId, id) then tail ← getTail(id, 1)"
+--     "if tail < firstId then return tail"
+--     "else .. offset ← getLastOffset(firstId), predFirstId ← createIdFromBase(firstId, offset)"
 --       "return concat(predFirstId, MAX_TUPLE, tail)"
 --   "else return id"
 unfoldable pub rev_ren_id_less_than_new_first_id : Row → Row → Row → Row
@@ -153,11 +153,11 @@ rev_ren_id_less_than_new_first_id id first new_first =
     let predFirstId = create_id_from_base first (get_last_offset first) in
     cond (is_prefix (create_id_from_base new_first (negsuc 0)) id) (if_below tail first tail (predFirstId ++ (M ∷ tail))) id
 
--- function REVRENIDGREATERTHANNEWLASTID(id, last_id). Reading: new_last_id, which its lines name, is handed over too.
---   "if id < last_id then .. return concat(last_id, MIN_TUPLE, id)"
---   "else if is_prefix(new_last_id, id) then tail ← get_tail(id, 1)"
---     "if tail < last_id then .. return concat(last_id, MIN_TUPLE, tail)"
---     "else if tail < new_last_id then return tail"
+-- function REVRENIDGREATERTHANNEWLASTID(id, lastId). Reading: newLastId, which its lines name, is handed over too.
+--   "if id < lastId then .. return concat(lastId, MIN_TUPLE, id)"
+--   "else if isPrefix(newLastId, id) then tail ← getTail(id, 1)"
+--     "if tail < lastId then .. return concat(lastId, MIN_TUPLE, tail)"
+--     "else if tail < newLastId then return tail"
 --     "else .. return id"
 --   "else return id"
 unfoldable pub rev_ren_id_greater_than_new_last_id : Row → Row → Row → Row
@@ -167,9 +167,9 @@ rev_ren_id_greater_than_new_last_id id last new_last =
     (cond (is_prefix new_last id) (if_below tail last (last ++ (m ∷ tail)) (if_below tail new_last tail id)) id)
 
 -- function REVRENIDFROMPREDID(id, renamedIds, index)
---   "predId ← renamedIds[index]", "succId ← renamedIds[index + 1]", "tail ← get_tail(id, 1)"
+--   "predId ← renamedIds[index]", "succId ← renamedIds[index + 1]", "tail ← getTail(id, 1)"
 --   "if tail < predId then .. return concat(predId, MIN_TUPLE, tail)"
---   "else if succId < tail then .. offset ← get_last_offset(succId) - 1, predOfSuccId ← create_id_from_base(succId, offset)"
+--   "else if succId < tail then .. offset ← getLastOffset(succId) - 1, predOfSuccId ← createIdFromBase(succId, offset)"
 --     "return concat(predOfSuccId, MAX_TUPLE, tail)"
 --   "else return tail"
 unfoldable pub rev_ren_id_from_pred_id : Row → List Row → ℕ → Row
@@ -181,10 +181,10 @@ rev_ren_id_from_pred_id id renamedIds index =
     if_below tail predId (predId ++ (m ∷ tail)) (if_below succId tail (predOfSuccId ++ (M ∷ tail)) tail)
 
 -- function REVERTRENAMEID(id, renamedIds, nId, nSeq)
---   "if id < new_first_id then return rev_ren_id_less_than_new_first_id(id, first_id, new_first_id)"
---   "else if is_renamed_id(id, pos, nId, nSeq, length) then index ← get_first_offset(id), return renamedIds[index]"
---   "else if new_last_id < id then return rev_ren_id_greater_than_new_last_id(id, last_id)"
---   "else index ← get_first_offset(id), return rev_ren_id_from_pred_id(id, renamedIds, index)"
+--   "if id < newFirstId then return revRenIdLessThanNewFirstId(id, firstId, newFirstId)"
+--   "else if isRenamedId(id, pos, nId, nSeq, length) then index ← getFirstOffset(id), return renamedIds[index]"
+--   "else if newLastId < id then return revRenIdGreaterThanNewLastId(id, lastId)"
+--   "else index ← getFirstOffset(id), return revRenIdFromPredId(id, renamedIds, index)"
 unfoldable pub revert_rename_id : Row → List Row → Author → Row
 revert_rename_id id renamedIds author =
     if_below id (new_first_id renamedIds author) (rev_ren_id_less_than_new_first_id id (first_id renamedIds) (new_first_id renamedIds author))
@@ -201,24 +201,24 @@ pub data Departs (author : Author) (log : List Row) : Row → Type 0 where
   tail_is_pred : (k : ℕ) → suc k < length log → Departs author log (N (first_position log) author k ++ id_at log k)
   -- Algorithm 2, "else if succId < tail": likewise a tail equal to succId.
   tail_is_succ : (k : ℕ) → suc k < length log → Departs author log (N (first_position log) author k ++ id_at log (suc k))
-  -- Algorithm 4, "if is_prefix(pred_new_first_id, id)": the prefix is stripped from every id that has it. RENAMEID puts it only before
-  -- ids that are not below new_first_id; a tail below new_first_id passes the ids to its left.
+  -- Algorithm 4, "if isPrefix(predNewFirstId, id)": the prefix is stripped from every id that has it. RENAMEID puts it only before
+  -- ids that are not below newFirstId; a tail below newFirstId passes the ids to its left.
   low_tail : {t : Row} → [] <ⁿ t → t <ⁿ new_first_id log author → Departs author log (pred_new_first_id log author ++ t)
-  -- Algorithm 4, "offset ← get_last_offset(first_id)": not less 1, as algorithm 2 has it for succId. So predFirstId is first_id, and the
+  -- Algorithm 4, "offset ← getLastOffset(firstId)": not less 1, as algorithm 2 has it for succId. So predFirstId is firstId, and the
   -- result lies above it.
   high_tail : {t : Row} → new_first_id log author ≤ⁿ t → first_id log ≤ⁿ t → Departs author log (pred_new_first_id log author ++ t)
-  -- Algorithm 4, "else return id": also where id is not below first_id.
+  -- Algorithm 4, "else return id": also where id is not below firstId.
   no_prefix : {c : Row} → is_prefix (pred_new_first_id log author) c ≡ false → c <ⁿ new_first_id log author → first_id log ≤ⁿ c → Departs author log c
-  -- Algorithm 4, "else if tail < new_last_id then return tail": also where tail is last_id.
+  -- Algorithm 4, "else if tail < newLastId then return tail": also where tail is lastId.
   tail_is_last : last_id log <ⁿ new_last_id log author → Departs author log (new_last_id log author ++ last_id log)
-  -- Algorithm 4, "else return id": also where id is last_id. (Where 01 strips last_id, it does not depart; over a log of fresh names it
+  -- Algorithm 4, "else return id": also where id is lastId. (Where 01 strips lastId, it does not depart; over a log of fresh names it
   -- never does.)
   is_last : new_last_id log author <ⁿ last_id log → ((t : Row) → last_id log ≡ new_last_id log author ++ t → new_last_id log author ≤ⁿ t) → Departs author log (last_id log)
-  -- Algorithm 4, "if id < last_id then .. return concat(last_id, MIN_TUPLE, id)": before the prefix is looked for, so that id and not its tail
+  -- Algorithm 4, "if id < lastId then .. return concat(lastId, MIN_TUPLE, id)": before the prefix is looked for, so that id and not its tail
   -- goes behind MIN_TUPLE.
   whole_below_last : {t : Row} → [] <ⁿ t → t <ⁿ new_last_id log author → new_last_id log author ++ t <ⁿ last_id log → Departs author log (new_last_id log author ++ t)
-  -- Algorithm 4, "if tail < last_id" before "tail < new_last_id": a tail that is not below new_last_id, and so was not put behind it by
-  -- RENAMEID, is stripped. (Only where last_id itself begins with new_last_id.)
+  -- Algorithm 4, "if tail < lastId" before "tail < newLastId": a tail that is not below newLastId, and so was not put behind it by
+  -- RENAMEID, is stripped. (Only where lastId itself begins with newLastId.)
   late_test : {t : Row} → new_last_id log author ≤ⁿ t → t <ⁿ last_id log → last_id log <ⁿ new_last_id log author ++ t → Departs author log (new_last_id log author ++ t)
 
 -- ── where the two agree ──

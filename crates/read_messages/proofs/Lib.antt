@@ -4,4 +4,3 @@ pub mod FirstPassTells
 pub mod SecondPassSlots
 pub mod WhatWasTold
 pub mod Settled
-pub mod WalkOneParameter
