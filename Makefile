@@ -2,11 +2,11 @@
 
 PREFIX = /usr/local
 
-# Proves the crates, lists the sample book and runs the crew of three.
+# Proves the library and the listing program, lists the sample book and runs the crew of three.
 run:
 	@scripts/run
 
-# The gate: everything from nothing, and the tests outside Rattle.
+# The gate: every proof, every must-fail edit, and the tests outside Rattle.
 test:
 	@tests/run
 
