@@ -92,7 +92,7 @@ fresh author (t ∷ x) = not (eqb t.node author.node && eqb t.sequence author.se
 -- ── taking it back: 001, algorithm 2 and appendix C ──
 
 -- "If v is below r0 the result is v, else one below r0, then M, then v", with any name of the log for r0. Algorithm 4 has
--- create_id_from_base(first_id, offset) with the offset of first_id itself, so that its result is above r0; 01 lowers it.
+-- createIdFromBase(firstId, offset) with the offset of firstId itself, so that its result is above r0; 01 lowers it.
 unfoldable pub under : Row → Row → Row
 under r v = if_below v r v (one_below r ++ (M ∷ v))
 

@@ -12,8 +12,8 @@ pub enum Case {
     PutBelow,
     // | equal to r(k) | N(k) |
     Logged(usize),
-    // | between r(k) and r(k+1) | N(k)·x |: k is the index of the name before x, where algorithm 1 has find_index(id, ..) of
-    // an id that is not in the log and means appendix A's find_index_of_pred
+    // | between r(k) and r(k+1) | N(k)·x |: k is the index of the name before x, where algorithm 1 has findIndex(id, ..) of
+    // an id that is not in the log and means appendix A's findIndexOfPred
     Between(usize),
     // | above r(n−1) and below N(n−1) | N(n−1)·x |, with k = n − 1
     PutAbove(usize),

@@ -9,7 +9,6 @@ use Rattle.numbers.proofs.Lists.{take_min}
 use Rattle.names.proofs.compare.Goals as goal
 use Rattle.names.proofs.compare.Goals.{At-loop-i}
 
--- LOOK
 -- what the loop compares is the whole of both names
 whole : (c : At-loop-i) →
     compare_rows (take c.clamped-n.result c.args.a.tuples) (take c.clamped-m.result c.args.b.tuples) ≡ compare_rows (row_of c.args.a) (row_of c.args.b)

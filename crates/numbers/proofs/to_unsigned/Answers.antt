@@ -10,7 +10,6 @@ use Rattle.numbers.proofs.TwosComplement.{is_pos as high, is_neg as low, flipped
 use Rattle.numbers.proofs.to_unsigned.Goals as goal
 use Rattle.numbers.proofs.to_unsigned.Goals.{Else-z-ge0, Then-z-ge0}
 
--- LOOK
 at_least : (c : Then-z-ge0) →
     (n : ℕ) × (c.args.z ≡ pos n) × (n < 2 ^ 31)
 at_least c =
@@ -19,7 +18,6 @@ at_least c =
     let h = high z (rw (to_z-of_z w32 z f) at c.if-z-ge0.true) in
     (h.0, h.1, rw h.1 at f.sfits)
 
--- LOOK
 below : (c : Else-z-ge0) →
     (n : ℕ) × (c.args.z ≡ negsuc n) × (to_z w32 (of_z w32 c.args.z) ≡ c.args.z) × (n < 2 ^ 31)
 below c =
