@@ -19,28 +19,10 @@
 mod asked;
 mod line;
 
-ghost use Rattle.std.specs.Prelude.{◌≤◌, length, IfOk};
-
 use std::io;
-use std::io::Read;
-
-// Reads until buf is full or the input ends; how many bytes that is.
-fn read_full<R: Read>(input: &mut R, buf: &mut [u8]) -> io::Result<usize>
-    ensures { IfOk result (λ n. n ≤ length buf.new) }
-{
-    let mut done: usize = 0;
-    while done < buf.len() {
-        let n = input.read(&mut buf[done..])?;
-        if n == 0 {
-            break;
-        }
-        done += n;
-    }
-    Ok(done)
-}
 
 fn main(rt: HostRuntime) -> io::Result<()> {
     let mut text = [0u8; 4096];
-    let n = read_full(&mut rt.stdin(), &mut text)?;
+    let n = inputs::read_full(&mut rt.stdin(), &mut text)?;
     asked::run_text(&rt, &text[..n])
 }
