@@ -190,6 +190,15 @@ def typed(block):
     return block[:k], m[1], ty, block[j:]
 
 
+def peeled(text):
+    """The lines `unfolding ..` at the head of a definition, and the rest."""
+    lines = text.split("\n")
+    k = 0
+    while lines[k].startswith("unfolding "):
+        k += 1
+    return "".join(l + "\n" for l in lines[:k]), "\n".join(lines[k:])
+
+
 def words(text, table):
     """Replaces whole words that stand behind no dot."""
     return re.sub(r'(?<![^\s(){}\[\];,@"«»])' + WORD, lambda m: table.get(m[0], m[0]), text)
@@ -403,11 +412,7 @@ def turn(crate, name, data, labels):
                 continue
         (oldl, newl), variables = loops[index]
         changed = data["changed"][index] if index < len(data["changed"]) else [True] * len(variables)
-        text = "\n".join(rest)
-        unf = ""
-        while text.startswith("unfolding "):
-            u, text = text.split("\n", 1)
-            unf += u + "\n"
+        unf, text = peeled("\n".join(rest))
         lhs, _, bodytext = text.partition("=")
         params = lhs.split()[1:]
         want = ["initial." + v if ch else v for v, ch in zip(variables, changed)] + [v for v, ch in zip(variables, changed) if ch]
@@ -441,11 +446,7 @@ def turn(crate, name, data, labels):
     for it in others:
         comments, nm, ty, bl = it
         _, _, hty, hrest = typed(bl)
-        hdef = "\n".join(hrest)
-        hunf = ""
-        while hdef.startswith("unfolding "):
-            u, hdef = hdef.split("\n", 1)
-            hunf += u + "\n"
+        hunf, hdef = peeled("\n".join(hrest))
         m = re.match(r"\s*(?:\((?:[\w'-]+) : )?tie\.([\w'-]+)(?: [\w'-]+)*\)? →\s*(.*)$", hty, re.S) if nm else None
         head = re.match(re.escape(nm) + r"((?: [^\s=()]+)+) =(.*)$", hdef, re.S) if m else None
         if not m or not head or re.search(r"(?m)^" + re.escape(nm) + r" ", head[2]):
@@ -492,11 +493,7 @@ def turn(crate, name, data, labels):
         h[2] = t.fields(h[2], {"c"})
         h.append(set(u0 + u1))
     for k, (comments, nm, label, rest) in enumerate(needs):
-        text = "\n".join(rest)
-        unf = ""
-        while text.startswith("unfolding "):
-            u, text = text.split("\n", 1)
-            unf += u + "\n"
+        unf, text = peeled("\n".join(rest))
         lhs, _, bodytext = text.partition("=")
         if TRIVIAL.match(bodytext) and not unf:
             continue
