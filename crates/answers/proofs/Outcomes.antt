@@ -16,7 +16,7 @@ use Rattle.numbers.specs.Bytes.{Bytes, put}
 use Rattle.numbers.proofs.Put.{put_length}
 use Rattle.answers.specs.declared.Refusal.{Refusal}
 use Rattle.answers.specs.declared.Refusal.TheVariants.{Short}
-use Rattle.answers.specs.declared.Answer.TheVariants.{Accepted, Refused}
+use Rattle.std.specs.declared.result.Result.TheVariants.{Ok, Err}
 use Rattle.answers.specs.Answers.{Outcome, ask, refuse, accept, write, leaves}
 
 -- from the start: the bytes, and what stood after them
@@ -38,39 +38,39 @@ module _ (x : Outcome) (o : Bytes) where
 
 -- ── what an accepted outcome says ──
 
-pub no_answer : {A : Type 0} (r : Refusal) (n : ℕ) → Refused r ≡ Accepted n → A
+pub no_answer : {A : Type 0} (r : Refusal) (n : ℕ) → Err r ≡ Ok n → A
 no_answer r n e = absurd (let z : ◌≡◌ {A = ℕ} 0 1 = cc in omega arith)
 
-pub write_accepted : (l : List Bytes) (room n : ℕ) → (write l room).answer ≡ Accepted n → write l room ≡ accept l
+pub write_accepted : (l : List Bytes) (room n : ℕ) → (write l room).answer ≡ Ok n → write l room ≡ accept l
 write_accepted l room n e = go (leb (length (flatten l)) room) e
   where
-    go : (b : Bool) → (ask b (refuse Short) (accept l)).answer ≡ Accepted n → ask b (refuse Short) (accept l) ≡ accept l
+    go : (b : Bool) → (ask b (refuse Short) (accept l)).answer ≡ Ok n → ask b (refuse Short) (accept l) ≡ accept l
     go true e = refl
     go false e = no_answer Short n e
 
 -- ── an outcome as a call leaves it ──
 
-pub refused : (x : Outcome) (r : Refusal) (o : Bytes) → x ≡ refuse r → (Refused r ≡ x.answer) × (o ≡ leaves x o)
+pub refused : (x : Outcome) (r : Refusal) (o : Bytes) → x ≡ refuse r → (Err r ≡ x.answer) × (o ≡ leaves x o)
 refused x r o e = (sym (ap (λ (y : Outcome). y.answer) e), sym (refused_leaves r o) ∙ sym (ap (λ (y : Outcome). leaves y o) e))
 
-pub accepted : (x : Outcome) (n : ℕ) (w o e : Bytes) → x ≡ record { answer = Accepted n; bytes = w } → e ≡ put o 0 w → (Accepted n ≡ x.answer) × (e ≡ leaves x o)
+pub accepted : (x : Outcome) (n : ℕ) (w o e : Bytes) → x ≡ record { answer = Ok n; bytes = w } → e ≡ put o 0 w → (Ok n ≡ x.answer) × (e ≡ leaves x o)
 accepted x n w o e q f = (sym (ap (λ (y : Outcome). y.answer) q), f ∙ sym (ap (λ (y : Outcome). leaves y o) q))
 
 -- 8, or the bytes
 pub writes_short : (l : List Bytes) (room : ℕ) → room < length (flatten l) → write l room ≡ refuse Short
 writes_short l room h = rw (lt-leb (length (flatten l)) room h)
 
-pub writes : (l : List Bytes) (room n : ℕ) (w : Bytes) → length l ≡ n → flatten l ≡ w → length w ≤ room → write l room ≡ record { answer = Accepted n; bytes = w }
+pub writes : (l : List Bytes) (room n : ℕ) (w : Bytes) → length l ≡ n → flatten l ≡ w → length w ≤ room → write l room ≡ record { answer = Ok n; bytes = w }
 writes l room n w p q h =
     let k : length (flatten l) ≤ room = rw q h in
-    rw (le-leb (length (flatten l)) room k) (λ i. record { answer = Accepted (p i); bytes = q i })
+    rw (le-leb (length (flatten l)) room k) (λ i. record { answer = Ok (p i); bytes = q i })
 
 -- writing alone refuses with 8 and nothing else
-pub write_refuses : (l : List Bytes) (room : ℕ) {r : Refusal} → (write l room).answer ≡ Refused r → (r ≡ Short) × (room < length (flatten l))
+pub write_refuses : (l : List Bytes) (room : ℕ) {r : Refusal} → (write l room).answer ≡ Err r → (r ≡ Short) × (room < length (flatten l))
 write_refuses l room {r} e = elim (dec_le (length (flatten l)) room) [
   | yes h ↦ no_answer r (length l) (sym e ∙ ap (λ (y : Outcome). y.answer) (writes l room (length l) (flatten l) refl refl h))
   | no h ↦
       let k : room < length (flatten l) = omega arith in
-      let same : Refused r ≡ Refused Short = sym e ∙ ap (λ (y : Outcome). y.answer) (writes_short l room k) in
+      let same : Err r ≡ Err Short = sym e ∙ ap (λ (y : Outcome). y.answer) (writes_short l room k) in
       (let is : r ≡ Short = cc in is, k)
 ]

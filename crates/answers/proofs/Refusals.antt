@@ -7,7 +7,7 @@ use mathlib.Core.Bool.{Bool, true, false}
 use Prim.Native.Nat.{ℕ}
 use native.Mathlib.Omega.{arith}
 use Rattle.answers.specs.declared.Refusal.{Refusal}
-use Rattle.answers.specs.declared.Answer.TheVariants.{Accepted, Refused}
+use Rattle.std.specs.declared.result.Result.TheVariants.{Ok, Err}
 use Rattle.answers.specs.Laws.{Passed, FirstFails, here, later, RefusedBy, test, after}
 use Rattle.answers.specs.Answers.{Outcome, Test, ask, in_order, refuse}
 
@@ -56,16 +56,16 @@ module _ {A : Type 0} (refusing : Refusal → A) (next : A) (apart : (r : Refusa
 
 -- ── of an outcome ──
 
-not_accepted : {A : Type 0} {r : Refusal} {n : ℕ} → Refused r ≡ Accepted n → A
+not_accepted : {A : Type 0} {r : Refusal} {n : ℕ} → Err r ≡ Ok n → A
 not_accepted e = absurd (let z : ◌≡◌ {A = ℕ} 0 1 = cc in omega arith)
 
 -- accepted: every test passes, and the outcome is what comes after them
-pub accepted_passes : (x : Outcome) (n : ℕ) (tests : List Test) → (in_order tests refuse x).answer ≡ Accepted n → Passed tests × (in_order tests refuse x ≡ x)
+pub accepted_passes : (x : Outcome) (n : ℕ) (tests : List Test) → (in_order tests refuse x).answer ≡ Ok n → Passed tests × (in_order tests refuse x ≡ x)
 accepted_passes x n tests e =
-    let g = reached (λ y. y.answer ≡ Accepted n) refuse x (λ r f. not_accepted f) tests e in
+    let g = reached (λ y. y.answer ≡ Ok n) refuse x (λ r f. not_accepted f) tests e in
     (g.0, passed refuse x tests g.0)
 
-pub refused_first : {r : Refusal} (x : Outcome) (tests : List Test) → (in_order tests refuse x).answer ≡ Refused r → RefusedBy r tests x
+pub refused_first : {r : Refusal} (x : Outcome) (tests : List Test) → (in_order tests refuse x).answer ≡ Err r → RefusedBy r tests x
 refused_first x [] e = after tt e
 refused_first {r} x (t ∷ tests) e = by t.passes refl (λ f. refused_first x tests f) e
   where
@@ -76,6 +76,6 @@ refused_first {r} x (t ∷ tests) e = by t.passes refl (λ f. refused_first x te
     more p (test f) = test (later p f)
     more p (after q f) = after (p, q) f
 
-    by : (b : Bool) → t.passes ≡ b → (rest.answer ≡ Refused r → RefusedBy r tests x) → (ask b (refuse t.refusal) rest).answer ≡ Refused r → RefusedBy r (t ∷ tests) x
+    by : (b : Bool) → t.passes ≡ b → (rest.answer ≡ Err r → RefusedBy r tests x) → (ask b (refuse t.refusal) rest).answer ≡ Err r → RefusedBy r (t ∷ tests) x
     by true p f e = more p (f e)
     by false p f e = let same : t.refusal ≡ r = cc in test (here p same)

@@ -4,8 +4,8 @@ use mathlib.Core.List.{List, [], ◌∷◌, flatten}
 use Rattle.numbers.specs.Bytes.{Bytes, put}
 use Rattle.answers.specs.declared.Refusal.{Refusal}
 use Rattle.answers.specs.declared.Refusal.TheVariants.{BadLayout, NotRising, BadLog, NoAuthor, NotFresh, TooDeep, NotRisingBack, Short, Present, Absent, Full, NoNewName, BadTable, NoEpoch, Malformed, NoGap, Listed, TableFull}
-use Rattle.answers.specs.declared.Answer.{Answer}
-use Rattle.answers.specs.declared.Answer.TheVariants.{Accepted, Refused}
+use Rattle.std.specs.declared.result.Result.{Result}
+use Rattle.std.specs.declared.result.Result.TheVariants.{Ok, Err}
 
 -- "No." of 01's table
 abbrev pub refusal_number : Refusal → ℕ
@@ -28,14 +28,19 @@ refusal_number NoGap = 16
 refusal_number Listed = 17
 refusal_number TableFull = 18
 
+-- what comes back: a count, or a refusal
+abbrev pub Answer : Type 0
+Answer = Result ℕ Refusal
+
+-- "No." of an answer: 0 where it is accepted
 abbrev pub number_of : Answer → ℕ
-number_of (Accepted n) = 0
-number_of (Refused r) = refusal_number r
+number_of (Ok n) = 0
+number_of (Err r) = refusal_number r
 
 -- "accepted; with the count of slots, entries or bytes written"; "Each refusal reports count 0"
 abbrev pub count_of : Answer → ℕ
-count_of (Accepted n) = n
-count_of (Refused r) = 0
+count_of (Ok n) = n
+count_of (Err r) = 0
 
 -- ── "Order" ──
 
@@ -60,7 +65,7 @@ in_order (t ∷ tests) refusing next = ask t.passes (refusing t.refusal) (in_ord
 
 -- what a check answers that writes nothing: the first refusal, or so many
 abbrev pub check : List Test → ℕ → Answer
-check tests n = in_order tests Refused (Accepted n)
+check tests n = in_order tests Err (Ok n)
 
 -- what a call that writes answers, and the bytes that it writes
 pub record Outcome : Type 0 where
@@ -69,11 +74,11 @@ pub record Outcome : Type 0 where
 
 -- "Each refusal .. writes nothing"
 abbrev pub refuse : Refusal → Outcome
-refuse r = record { answer = Refused r; bytes = [] }
+refuse r = record { answer = Err r; bytes = [] }
 
 -- The pieces are slots, entries or single bytes: the count is how many of them are written.
 abbrev pub accept : List Bytes → Outcome
-accept pieces = record { answer = Accepted (length pieces); bytes = flatten pieces }
+accept pieces = record { answer = Ok (length pieces); bytes = flatten pieces }
 
 -- "8: output shorter than the result", which is the last refusal of every call that writes
 abbrev pub write : List Bytes → ℕ → Outcome

@@ -2,7 +2,7 @@
 use Rattle.std.specs.Prelude.{ℕ, ◌≤◌, ◌≡◌, List, [], ◌∷◌, true, false, length, take, drop}
 use Rattle.numbers.specs.Bytes.{Bytes}
 use Rattle.answers.specs.declared.Refusal.{Refusal}
-use Rattle.answers.specs.declared.Answer.TheVariants.{Accepted, Refused}
+use Rattle.std.specs.declared.result.Result.TheVariants.{Ok, Err}
 use Rattle.answers.specs.Answers.{Test, Outcome, in_order, refuse, leaves}
 
 -- every test passes: a fact for each, in their order
@@ -18,13 +18,13 @@ pub data FirstFails (r : Refusal) : List Test → Type 0 where
 -- r's test is the first that fails, or all pass and what comes after them answers r
 pub data RefusedBy (r : Refusal) (tests : List Test) (x : Outcome) : Type 0 where
   test : FirstFails r tests → RefusedBy r tests x
-  after : Passed tests → x.answer ≡ Refused r → RefusedBy r tests x
+  after : Passed tests → x.answer ≡ Err r → RefusedBy r tests x
 
 pub record Laws : Type 0 where
   -- "Each refusal is given when its row says and at no other time": an accepted call has passed every test, and is what comes
   -- after them; a refused one has failed the test of its refusal, and passed those before it
-  pub accepted : (x : Outcome) (n : ℕ) (tests : List Test) → (in_order tests refuse x).answer ≡ Accepted n → Passed tests × (in_order tests refuse x ≡ x)
-  pub refused : {r : Refusal} (x : Outcome) (tests : List Test) → (in_order tests refuse x).answer ≡ Refused r → RefusedBy r tests x
+  pub accepted : (x : Outcome) (n : ℕ) (tests : List Test) → (in_order tests refuse x).answer ≡ Ok n → Passed tests × (in_order tests refuse x ≡ x)
+  pub refused : {r : Refusal} (x : Outcome) (tests : List Test) → (in_order tests refuse x).answer ≡ Err r → RefusedBy r tests x
   pub refuses : {r : Refusal} (x : Outcome) (tests : List Test) → FirstFails r tests → in_order tests refuse x ≡ refuse r
   -- "After any refusal the output buffer holds what it held before"
   pub left_alone : (r : Refusal) (o : Bytes) → leaves (refuse r) o ≡ o

@@ -7,94 +7,70 @@ ghost use Rattle.std.specs.Prelude.{◌≡◌};
 ghost use Rattle.answers.specs.Answers.{refusal_number, number_of, count_of};
 
 // What is refused, in the order of 01's table, each under its number.
-#[derive(Clone, Copy)]
+#[derive(Clone, Copy, Debug, PartialEq, Eq)]
 pub enum Refusal {
-    // 1: a page (its order apart) or given slot breaks its layout.
-    BadLayout,
-    // 2: page names not strictly rising.
-    NotRising,
-    // 3: log breaks its layout, is empty, not rising, or has a line number other than 0.
-    BadLog,
-    // 4: author node is 0.
-    NoAuthor,
-    // 5: rename not fresh.
-    NotFresh,
-    // 6: some result needs more tuples than a name has: sixteen, or in an old page eight.
-    TooDeep,
-    // 7: taken-back names not strictly rising.
-    NotRisingBack,
-    // 8: output shorter than the result.
-    Short,
-    // 9: insert: name present.
-    Present,
-    // 10: remove: name absent.
-    Absent,
-    // 11: insert: page has 256 slots.
-    Full,
-    // 12: no new name by the rule.
-    NoNewName,
-    // 13: epoch table breaks its layout.
-    BadTable,
-    // 14: current or parent index not in the table.
-    NoEpoch,
-    // 15: message, or the parts given for one, malformed.
-    Malformed,
-    // 16: gap beyond the page.
-    NoGap,
-    // 17: epoch to add already listed.
-    Listed,
-    // 18: epoch table has 32 entries.
-    TableFull,
+    // A page (its order apart) or given slot breaks its layout.
+    BadLayout = 1,
+    // Page names not strictly rising.
+    NotRising = 2,
+    // Log breaks its layout, is empty, not rising, or has a line number other than 0.
+    BadLog = 3,
+    // Author node is 0.
+    NoAuthor = 4,
+    // Rename not fresh.
+    NotFresh = 5,
+    // Some result needs more tuples than a name has: sixteen, or in an old page eight.
+    TooDeep = 6,
+    // Taken-back names not strictly rising.
+    NotRisingBack = 7,
+    // Output shorter than the result.
+    Short = 8,
+    // Insert: name present.
+    Present = 9,
+    // Remove: name absent.
+    Absent = 10,
+    // Insert: page has 256 slots.
+    Full = 11,
+    // No new name by the rule.
+    NoNewName = 12,
+    // Epoch table breaks its layout.
+    BadTable = 13,
+    // Current or parent index not in the table.
+    NoEpoch = 14,
+    // Message, or the parts given for one, malformed.
+    Malformed = 15,
+    // Gap beyond the page.
+    NoGap = 16,
+    // Epoch to add already listed.
+    Listed = 17,
+    // Epoch table has 32 entries.
+    TableFull = 18,
 }
 
-// What comes back: 0 with the count of slots, entries or bytes written, or a refusal.
-#[derive(Clone, Copy)]
-pub enum Answer {
-    Accepted(usize),
-    Refused(Refusal),
-}
+impl From<Refusal> for u32 {
+    ghost from_gives = { λ r n. n ≡ refusal_number r };
 
-fn refusal_number(r: Refusal) -> u32
-    ensures { result ≡ refusal_number r }
-{
-    match r {
-        Refusal::BadLayout => 1,
-        Refusal::NotRising => 2,
-        Refusal::BadLog => 3,
-        Refusal::NoAuthor => 4,
-        Refusal::NotFresh => 5,
-        Refusal::TooDeep => 6,
-        Refusal::NotRisingBack => 7,
-        Refusal::Short => 8,
-        Refusal::Present => 9,
-        Refusal::Absent => 10,
-        Refusal::Full => 11,
-        Refusal::NoNewName => 12,
-        Refusal::BadTable => 13,
-        Refusal::NoEpoch => 14,
-        Refusal::Malformed => 15,
-        Refusal::NoGap => 16,
-        Refusal::Listed => 17,
-        Refusal::TableFull => 18,
+    fn from(r: Refusal) -> u32 {
+        r as u32
     }
 }
 
-// 01's number of an answer.
+// What comes back: the count of slots, entries or bytes written, or a refusal.
+pub type Answer = Result<usize, Refusal>;
+
+// 01's number of an answer: 0 where it is accepted.
 pub fn number(a: Answer) -> u32
     ensures { result ≡ number_of a }
 {
     match a {
-        Answer::Accepted(_) => 0,
-        Answer::Refused(r) => refusal_number(r),
+        Ok(_) => 0,
+        Err(r) => u32::from(r),
     }
 }
 
-// The count that an answer reports.
+// The count that an answer reports: a refusal 0.
 pub fn count(a: Answer) -> usize
     ensures { result ≡ count_of a }
 {
-    match a {
-        Answer::Accepted(n) => n,
-        Answer::Refused(_) => 0,
-    }
+    a.unwrap_or(0)
 }

@@ -11,19 +11,20 @@ use native.Mathlib.Omega.{arith}
 use borrow.Author.Tests.{ltb-true, lt-ltb, not-true}
 use lib.Dec.{ltb}
 use lib.ListN.{length}
-use Rattle.names.specs.declared.Order.{Order}
-use Rattle.names.specs.declared.Order.TheVariants.{Same}
-use Rattle.names.specs.Ordering.{Row, compare_rows, is_less, is_same, ◌<ⁿ◌, Rising, none, one, more}
+use Rattle.std.specs.declared.cmp.Ordering.{Ordering}
+use Rattle.std.specs.declared.cmp.Ordering.TheVariants.{Equal}
+use Rattle.names.specs.Ordering.{Row, compare_rows, ◌<ⁿ◌, Rising, none, one, more}
+use Rattle.std.specs.Ordering.{is_lt, is_eq}
 use Rattle.names.proofs.Laws.{tail_rising, Tri, below as is_below, level, above, tri_n, row_less, row_more, row_same, rising_Rising}
 use Rattle.numbers.proofs.Bools.{yes_no, and_0, and_1}
 use Rattle.numbers.specs.Bytes.{Bytes, Octets}
-use Rattle.numbers.specs.Lists.{every}
+use Rattle.std.specs.List.{list_all}
 use Rattle.slots.specs.Slots.{Slot, name_of, slot_of, keeps_slot, is_slot}
 use Rattle.slots.proofs.RoundTrip.{kept, decoded_slot}
 use Rattle.answers.specs.Answers.{Outcome, Test, ◌else◌, accept, write, outcome}
 use Rattle.pages.specs.Pages.{max_slots, slots_of, name_in, names_of, pieces, keeps_layout, rises}
 use Rattle.pages.specs.Places.{has}
-use Rattle.answers.specs.declared.Answer.TheVariants.{Accepted}
+use Rattle.std.specs.declared.result.Result.TheVariants.{Ok}
 use Rattle.answers.specs.declared.Refusal.TheVariants.{Present, Absent, Full}
 use Rattle.pages.proofs.SlotBySlot.{length_slots}
 use Rattle.answers.proofs.Outcomes.{write_accepted}
@@ -39,9 +40,9 @@ use Rattle.edits.proofs.Placed.{Over, over_none, over_more, rising_over, placed_
 -- ── lists of slots ──
 
 absent_tail :
-    (x y : Slot) (l : List Slot) (o : Order) → compare_rows y.name x.name ≡ o → has x.name (map name_in (y ∷ l)) ≡ false →
-    (is_same o ≡ false) × (has x.name (map name_in l) ≡ false)
-absent_tail x y l o q e = by (is_same o) (sym (ap (λ (p : Order). is_same p || has x.name (map name_in l)) q) ∙ e)
+    (x y : Slot) (l : List Slot) (o : Ordering) → compare_rows y.name x.name ≡ o → has x.name (map name_in (y ∷ l)) ≡ false →
+    (is_eq o ≡ false) × (has x.name (map name_in l) ≡ false)
+absent_tail x y l o q e = by (is_eq o) (sym (ap (λ (p : Ordering). is_eq p || has x.name (map name_in l)) q) ∙ e)
   where
     by : (b : Bool) → b || has x.name (map name_in l) ≡ false → (b ≡ false) × (has x.name (map name_in l) ≡ false)
     by true e = yes_no refl e
@@ -54,7 +55,7 @@ cons_rising (over_more h o) r = more h r
 
 over_placed : {a : Row} (x : Slot) (l : List Slot) → a <ⁿ x.name → Over a (map name_in l) → Over a (map name_in (placed x l))
 over_placed x [] h o = over_more h over_none
-over_placed {a} x (y ∷ l) h (over_more k o) = by (is_less (compare_rows x.name y.name)) (over_placed x l h o)
+over_placed {a} x (y ∷ l) h (over_more k o) = by (is_lt (compare_rows x.name y.name)) (over_placed x l h o)
   where
     by : (b : Bool) → Over a (map name_in (placed x l)) → Over a (map name_in (cond b (x ∷ y ∷ l) (y ∷ placed x l)))
     by true r = over_more h (over_more k o)
@@ -65,7 +66,7 @@ rising_placed x [] r e = one
 rising_placed x (y ∷ l) r e = by (compare_rows y.name x.name) (tri_n y.name x.name) refl (rising_placed x l (tail_rising r))
   where
     by :
-        (o : Order) → Tri ◌<ⁿ◌ y.name x.name o → compare_rows y.name x.name ≡ o →
+        (o : Ordering) → Tri ◌<ⁿ◌ y.name x.name o → compare_rows y.name x.name ≡ o →
         (has x.name (map name_in l) ≡ false → Rising (map name_in (placed x l))) → Rising (map name_in (placed x (y ∷ l)))
     by o (is_below h) q f = rw (row_more h) (cons_rising (over_placed x l h (rising_over r)) (f (absent_tail x y l o q e).1))
     by o (level h) q f = yes_no refl (absent_tail x y l o q e).0
@@ -73,7 +74,7 @@ rising_placed x (y ∷ l) r e = by (compare_rows y.name x.name) (tri_n y.name x.
 
 over_without : {b : Row} (a : Row) (l : List Slot) → Over b (map name_in l) → Over b (map name_in (without a l))
 over_without a [] o = over_none
-over_without {b} a (y ∷ l) (over_more h o) = by (is_same (compare_rows y.name a)) (over_without a l o)
+over_without {b} a (y ∷ l) (over_more h o) = by (is_eq (compare_rows y.name a)) (over_without a l o)
   where
     by : (c : Bool) → Over b (map name_in (without a l)) → Over b (map name_in (cond c (without a l) (y ∷ without a l)))
     by true r = r
@@ -81,32 +82,32 @@ over_without {b} a (y ∷ l) (over_more h o) = by (is_same (compare_rows y.name 
 
 rising_without : (a : Row) (l : List Slot) → Rising (map name_in l) → Rising (map name_in (without a l))
 rising_without a [] r = none
-rising_without a (y ∷ l) r = by (is_same (compare_rows y.name a)) (rising_without a l (tail_rising r))
+rising_without a (y ∷ l) r = by (is_eq (compare_rows y.name a)) (rising_without a l (tail_rising r))
   where
     by : (c : Bool) → Rising (map name_in (without a l)) → Rising (map name_in (cond c (without a l) (y ∷ without a l)))
     by true q = q
     by false q = cons_rising (over_without a l (rising_over r)) q
 
-pub every_placed : (f : Slot → Bool) (x : Slot) (l : List Slot) → f x ≡ true → every f l ≡ true → every f (placed x l) ≡ true
+pub every_placed : (f : Slot → Bool) (x : Slot) (l : List Slot) → f x ≡ true → list_all f l ≡ true → list_all f (placed x l) ≡ true
 every_placed f x [] p e = rw p
-every_placed f x (y ∷ l) p e = by (is_less (compare_rows x.name y.name)) (every_placed f x l p (and_1 (f y) (every f l) e))
+every_placed f x (y ∷ l) p e = by (is_lt (compare_rows x.name y.name)) (every_placed f x l p (and_1 (f y) (list_all f l) e))
   where
-    by : (b : Bool) → every f (placed x l) ≡ true → every f (cond b (x ∷ y ∷ l) (y ∷ placed x l)) ≡ true
+    by : (b : Bool) → list_all f (placed x l) ≡ true → list_all f (cond b (x ∷ y ∷ l) (y ∷ placed x l)) ≡ true
     by true q = rw p e
-    by false q = rw (and_0 (f y) (every f l) e) q
+    by false q = rw (and_0 (f y) (list_all f l) e) q
 
-pub every_without : (f : Slot → Bool) (a : Row) (l : List Slot) → every f l ≡ true → every f (without a l) ≡ true
+pub every_without : (f : Slot → Bool) (a : Row) (l : List Slot) → list_all f l ≡ true → list_all f (without a l) ≡ true
 every_without f a [] e = refl
-every_without f a (y ∷ l) e = by (is_same (compare_rows y.name a)) (every_without f a l (and_1 (f y) (every f l) e))
+every_without f a (y ∷ l) e = by (is_eq (compare_rows y.name a)) (every_without f a l (and_1 (f y) (list_all f l) e))
   where
-    by : (b : Bool) → every f (without a l) ≡ true → every f (cond b (without a l) (y ∷ without a l)) ≡ true
+    by : (b : Bool) → list_all f (without a l) ≡ true → list_all f (cond b (without a l) (y ∷ without a l)) ≡ true
     by true q = q
-    by false q = rw (and_0 (f y) (every f l) e) q
+    by false q = rw (and_0 (f y) (list_all f l) e) q
 
 -- no slot is lost but those of the name removed
 pub in_placed : (x : Slot) (l : List Slot) {z : Slot} → In z l → In z (placed x l)
 in_placed x [] m = absurd (Memᴰ.not-nil m)
-in_placed x (y ∷ l) {z} m = by (is_less (compare_rows x.name y.name)) (λ k. in_placed x l k)
+in_placed x (y ∷ l) {z} m = by (is_lt (compare_rows x.name y.name)) (λ k. in_placed x l k)
   where
     by : (b : Bool) → (In z l → In z (placed x l)) → In z (cond b (x ∷ y ∷ l) (y ∷ placed x l))
     by true f = In.tail m
@@ -119,14 +120,14 @@ in_without a (y ∷ l) {z} h m = by (compare_rows y.name a) (tri_n y.name a) (λ
     step : (In z l → In z (without a l)) → In z (y ∷ without a l)
     step f = elim (Memᴰ.cases_cons m) [ inl e ↦ In.head e | inr k ↦ In.tail (f k) ]
 
-    by : (o : Order) → Tri ◌<ⁿ◌ y.name a o → (In z l → In z (without a l)) → In z (cond (is_same o) (without a l) (y ∷ without a l))
+    by : (o : Ordering) → Tri ◌<ⁿ◌ y.name a o → (In z l → In z (without a l)) → In z (cond (is_eq o) (without a l) (y ∷ without a l))
     by _ (is_below q) f = step f
     by _ (above q) f = step f
     by _ (level q) f = elim (Memᴰ.cases_cons m) [ inl e ↦ absurd (h (ap name_in e ∙ q)) | inr k ↦ f k ]
 
 pub length_placed : (x : Slot) (l : List Slot) → length (placed x l) ≡ suc (length l)
 length_placed x [] = refl
-length_placed x (y ∷ l) = by (is_less (compare_rows x.name y.name)) (length_placed x l)
+length_placed x (y ∷ l) = by (is_lt (compare_rows x.name y.name)) (length_placed x l)
   where
     by : (b : Bool) → length (placed x l) ≡ suc (length l) → length (cond b (x ∷ y ∷ l) (y ∷ placed x l)) ≡ suc (suc (length l))
     by true q = refl
@@ -134,7 +135,7 @@ length_placed x (y ∷ l) = by (is_less (compare_rows x.name y.name)) (length_pl
 
 pub length_without : (a : Row) (l : List Slot) → length (without a l) ≤ length l
 length_without a [] = omega arith
-length_without a (y ∷ l) = by (is_same (compare_rows y.name a)) (length_without a l)
+length_without a (y ∷ l) = by (is_eq (compare_rows y.name a)) (length_without a l)
   where
     by : (b : Bool) → length (without a l) ≤ length l → length (cond b (without a l) (y ∷ without a l)) ≤ suc (length l)
     by true q = omega arith
@@ -149,7 +150,7 @@ without_absent x (y ∷ l) e =
 
 without_placed : (x : Slot) (l : List Slot) → has x.name (map name_in l) ≡ false → without x.name (placed x l) ≡ l
 without_placed x [] e = rw (row_same x.name)
-without_placed x (y ∷ l) e = by (is_less (compare_rows x.name y.name)) (without_placed x l (absent_tail x y l (compare_rows y.name x.name) refl e).1)
+without_placed x (y ∷ l) e = by (is_lt (compare_rows x.name y.name)) (without_placed x l (absent_tail x y l (compare_rows y.name x.name) refl e).1)
   where
     by : (b : Bool) → without x.name (placed x l) ≡ l → without x.name (cond b (x ∷ y ∷ l) (y ∷ placed x l)) ≡ y ∷ l
     by true f = rw (row_same x.name) (without_absent x (y ∷ l) e)
@@ -174,7 +175,7 @@ placed_without x (y ∷ l) r m = elim (Memᴰ.cases_cons m) [
     first : x ≡ y → placed x (without x.name (y ∷ l)) ≡ y ∷ l
     first e =
         let o : Over x.name (map name_in l) = rw (← e) at (rising_over r) in
-        let s : compare_rows y.name x.name ≡ Same = ap (λ (z : Slot). compare_rows z.name x.name) (sym e) ∙ row_same x.name in
+        let s : compare_rows y.name x.name ≡ Equal = ap (λ (z : Slot). compare_rows z.name x.name) (sym e) ∙ row_same x.name in
         rw (s, without_over x.name l o, placed_over x l o) (ap (λ (z : Slot). z ∷ l) e)
 
     later : y.name <ⁿ x.name → placed x (without x.name l) ≡ l → placed x (without x.name (y ∷ l)) ≡ y ∷ l
@@ -200,7 +201,7 @@ pub record Removes (page slot : Bytes) (room : ℕ) : Type 0 where
   pub outcome : remove_outcome page slot room ≡ accept (pieces (without (name_of slot) (slots_of page)))
 
 -- past all tests, what is written
-pub written : (tests : List Test) (l : List Bytes) (room n : ℕ) → (outcome tests l room).answer ≡ Accepted n → Passed tests × (outcome tests l room ≡ accept l)
+pub written : (tests : List Test) (l : List Bytes) (room n : ℕ) → (outcome tests l room).answer ≡ Ok n → Passed tests × (outcome tests l room ≡ accept l)
 written tests l room n e =
     let a = accepted_passes (write l room) n tests e in
     (a.0, a.1 ∙ write_accepted l room n (sym (ap (λ (o : Outcome). o.answer) a.1) ∙ e))
@@ -209,7 +210,7 @@ module _ (page slot : Bytes) where
   abbrev absence : List Test
   absence = not (has (name_of slot) (names_of page)) else Present ∷ ltb (length (slots_of page)) max_slots else Full ∷ []
 
-  pub inserts : (room n : ℕ) → (insert_outcome page slot room).answer ≡ Accepted n → Inserts page slot room
+  pub inserts : (room n : ℕ) → (insert_outcome page slot room).answer ≡ Ok n → Inserts page slot room
   unfolding insert_outcome
   inserts room n e = go (written (edit_tests page slot ++ absence) (pieces (placed (slot_of slot) (slots_of page))) room n e)
     where
@@ -226,7 +227,7 @@ module _ (page slot : Bytes) where
   abbrev presence : List Test
   presence = has (name_of slot) (names_of page) else Absent ∷ []
 
-  pub removes : (room n : ℕ) → (remove_outcome page slot room).answer ≡ Accepted n → Removes page slot room
+  pub removes : (room n : ℕ) → (remove_outcome page slot room).answer ≡ Ok n → Removes page slot room
   unfolding remove_outcome
   removes room n e = go (written (edit_tests page slot ++ presence) (pieces (without (name_of slot) (slots_of page))) room n e)
     where
@@ -237,15 +238,15 @@ module _ (page slot : Bytes) where
 
 module _ (page slot : Bytes) (po : Octets page) (so : Octets slot) (room n : ℕ) where
   -- what is written are slots
-  pub insert_good : (insert_outcome page slot room).answer ≡ Accepted n → every is_slot (placed (slot_of slot) (slots_of page)) ≡ true
+  pub insert_good : (insert_outcome page slot room).answer ≡ Ok n → list_all is_slot (placed (slot_of slot) (slots_of page)) ≡ true
   insert_good e =
       let v = inserts page slot room n e in
       every_placed is_slot (slot_of slot) (slots_of page) (decoded_slot slot so (kept slot v.slot_layout)) (page_slots page po v.layout)
 
-  pub inserted_slots : (insert_outcome page slot room).answer ≡ Accepted n → slots_of (insert_outcome page slot room).bytes ≡ placed (slot_of slot) (slots_of page)
+  pub inserted_slots : (insert_outcome page slot room).answer ≡ Ok n → slots_of (insert_outcome page slot room).bytes ≡ placed (slot_of slot) (slots_of page)
   inserted_slots e = ap (λ (o : Outcome). slots_of o.bytes) (inserts page slot room n e).outcome ∙ slots_back (placed (slot_of slot) (slots_of page)) (insert_good e)
 
-  pub insert_page : (insert_outcome page slot room).answer ≡ Accepted n → IsPage (insert_outcome page slot room).bytes
+  pub insert_page : (insert_outcome page slot room).answer ≡ Ok n → IsPage (insert_outcome page slot room).bytes
   insert_page e =
       let i = inserts page slot room n e in
       let x = slot_of slot in
@@ -253,13 +254,13 @@ module _ (page slot : Bytes) (po : Octets page) (so : Octets slot) (room n : ℕ
       let p = written_page (placed x (slots_of page)) (insert_good e) (omega (arith, length_placed x (slots_of page), i.spare)) r in
       rw i.outcome p
 
-  pub remove_good : (remove_outcome page slot room).answer ≡ Accepted n → every is_slot (without (name_of slot) (slots_of page)) ≡ true
+  pub remove_good : (remove_outcome page slot room).answer ≡ Ok n → list_all is_slot (without (name_of slot) (slots_of page)) ≡ true
   remove_good e = every_without is_slot (name_of slot) (slots_of page) (page_slots page po (removes page slot room n e).layout)
 
-  pub removed_slots : (remove_outcome page slot room).answer ≡ Accepted n → slots_of (remove_outcome page slot room).bytes ≡ without (name_of slot) (slots_of page)
+  pub removed_slots : (remove_outcome page slot room).answer ≡ Ok n → slots_of (remove_outcome page slot room).bytes ≡ without (name_of slot) (slots_of page)
   removed_slots e = ap (λ (o : Outcome). slots_of o.bytes) (removes page slot room n e).outcome ∙ slots_back (without (name_of slot) (slots_of page)) (remove_good e)
 
-  pub remove_page : (remove_outcome page slot room).answer ≡ Accepted n → IsPage (remove_outcome page slot room).bytes
+  pub remove_page : (remove_outcome page slot room).answer ≡ Ok n → IsPage (remove_outcome page slot room).bytes
   remove_page e =
       let i = removes page slot room n e in
       let a = name_of slot in
@@ -272,22 +273,22 @@ module _ (page slot : Bytes) (po : Octets page) (so : Octets slot) (room n : ℕ
 
 has_placed : (x : Slot) (l : List Slot) → has x.name (map name_in (placed x l)) ≡ true
 has_placed x [] = rw (row_same x.name)
-has_placed x (y ∷ l) = by (is_less (compare_rows x.name y.name)) (has_placed x l)
+has_placed x (y ∷ l) = by (is_lt (compare_rows x.name y.name)) (has_placed x l)
   where
     by : (b : Bool) → has x.name (map name_in (placed x l)) ≡ true → has x.name (map name_in (cond b (x ∷ y ∷ l) (y ∷ placed x l))) ≡ true
     by true f = rw (row_same x.name)
-    by false f = rw f (or-true (is_same (compare_rows y.name x.name)))
+    by false f = rw f (or-true (is_eq (compare_rows y.name x.name)))
 
 has_without : (a : Row) (l : List Slot) → has a (map name_in (without a l)) ≡ false
 has_without a [] = refl
-has_without a (y ∷ l) = by (is_same (compare_rows y.name a)) refl (has_without a l)
+has_without a (y ∷ l) = by (is_eq (compare_rows y.name a)) refl (has_without a l)
   where
-    by : (b : Bool) → is_same (compare_rows y.name a) ≡ b → has a (map name_in (without a l)) ≡ false → has a (map name_in (cond b (without a l) (y ∷ without a l))) ≡ false
+    by : (b : Bool) → is_eq (compare_rows y.name a) ≡ b → has a (map name_in (without a l)) ≡ false → has a (map name_in (cond b (without a l) (y ∷ without a l))) ≡ false
     by true q f = f
     by false q f = rw q f
 
 module _ (page slot : Bytes) (po : Octets page) (so : Octets slot) (room n room' : ℕ) (h : length page ≤ room') where
-  pub insert_remove : (insert_outcome page slot room).answer ≡ Accepted n → remove_outcome (insert_outcome page slot room).bytes slot room' ≡ gives_back page
+  pub insert_remove : (insert_outcome page slot room).answer ≡ Ok n → remove_outcome (insert_outcome page slot room).bytes slot room' ≡ gives_back page
   unfolding remove_outcome
   insert_remove e =
       let i = inserts page slot room n e in
@@ -299,7 +300,7 @@ module _ (page slot : Bytes) (po : Octets page) (so : Octets slot) (room n room'
       rw (p.0, i.slot_layout, p.1, f, w) (page_again page po i.layout room' h)
 
   -- the slot is one of the page's: its line number too
-  pub remove_insert : In (slot_of slot) (slots_of page) → (remove_outcome page slot room).answer ≡ Accepted n → insert_outcome (remove_outcome page slot room).bytes slot room' ≡ gives_back page
+  pub remove_insert : In (slot_of slot) (slots_of page) → (remove_outcome page slot room).answer ≡ Ok n → insert_outcome (remove_outcome page slot room).bytes slot room' ≡ gives_back page
   unfolding insert_outcome
   remove_insert m e =
       let i = removes page slot room n e in

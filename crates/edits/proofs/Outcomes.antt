@@ -14,7 +14,7 @@ use Rattle.answers.specs.Answers.{Outcome, in_order, refuse, write}
 use Rattle.pages.specs.Pages.{max_slots, slots_of, names_of, pieces, keeps_layout, rises}
 use Rattle.pages.specs.Places.{below, has, place_of}
 use Rattle.pages.specs.declared.Place.TheVariants.{Here, Gap}
-use Rattle.answers.specs.declared.Answer.TheVariants.{Accepted}
+use Rattle.std.specs.declared.result.Result.TheVariants.{Ok}
 use Rattle.answers.specs.declared.Refusal.{Refusal}
 use Rattle.answers.specs.declared.Refusal.TheVariants.{Short, Present, Absent, Full}
 use Rattle.pages.proofs.SlotBySlot.{length_slots, length_names}
@@ -22,22 +22,22 @@ use Rattle.answers.proofs.Outcomes.{writes_short, writes}
 use Rattle.answers.specs.Laws.{Passed}
 use Rattle.answers.proofs.Refusals.{refuses, failed, goes_on_lem}
 use Rattle.pages.proofs.RoundTrip.{laid}
-use Rattle.edits.specs.declared.Checked.TheVariants.{Refused as NotChecked, Passed as Checked}
+use Rattle.std.specs.declared.result.Result.TheVariants.{Ok, Err}
 use Rattle.edits.specs.Edits.{placed, without, edit_tests, insert_outcome, remove_outcome}
 use Rattle.edits.proofs.Placed.{placed_split, without_split, below_most, below_less, is_gap, is_here_lem}
 use Rattle.edits.proofs.EditedBytes.{with_bytes, without_bytes}
 
 -- ── the tests that both begin with ──
 
-apart : (r : Refusal) → NotChecked r ≡ Checked → ⊥
+apart : (r : Refusal) → Err r ≡ (Ok tt) → ⊥
 apart r e = absurd (let z : ◌≡◌ {A = ℕ} 0 1 = cc in omega arith)
 
 module _ (page slot : Bytes) where
-  pub checked : in_order (edit_tests page slot) NotChecked Checked ≡ Checked → Passed (edit_tests page slot)
-  checked e = goes_on_lem NotChecked Checked apart (edit_tests page slot) e
+  pub checked : in_order (edit_tests page slot) Err (Ok tt) ≡ (Ok tt) → Passed (edit_tests page slot)
+  checked e = goes_on_lem Err (Ok tt) apart (edit_tests page slot) e
 
-  pub turned_away : (r : Refusal) (next : Outcome) → in_order (edit_tests page slot) NotChecked Checked ≡ NotChecked r → in_order (edit_tests page slot) refuse next ≡ refuse r
-  turned_away r next e = failed refuse next (edit_tests page slot) (refuses NotChecked Checked apart (λ q r f. cc) (edit_tests page slot) e)
+  pub turned_away : (r : Refusal) (next : Outcome) → in_order (edit_tests page slot) Err (Ok tt) ≡ Err r → in_order (edit_tests page slot) refuse next ≡ refuse r
+  turned_away r next e = failed refuse next (edit_tests page slot) (refuses Err (Ok tt) apart (λ q r f. cc) (edit_tests page slot) e)
 
 -- ── insert ──
 
@@ -115,14 +115,14 @@ module _ {page slot : Bytes} {k : ℕ} (v : AtGap page slot k) where
   pub insert_short : (room : ℕ) → length page < slot_size * max_slots → room < length page + slot_size → insert_outcome page slot room ≡ refuse Short
   insert_short room h g = inserts_into room h ∙ writes_short more_slots room (rw bytes (omega (arith, long)))
 
-  pub insert_done : (room : ℕ) → length page < slot_size * max_slots → length page + slot_size ≤ room → insert_outcome page slot room ≡ record { answer = Accepted (length page / slot_size + 1); bytes = more_bytes }
+  pub insert_done : (room : ℕ) → length page < slot_size * max_slots → length page + slot_size ≤ room → insert_outcome page slot room ≡ record { answer = Ok (length page / slot_size + 1); bytes = more_bytes }
   insert_done room h g = inserts_into room h ∙ writes more_slots room (length page / slot_size + 1) more_bytes number bytes (omega (arith, long))
 
 pub insert_present : (page slot : Bytes) (room k : ℕ) → Passed (edit_tests page slot) → place_of (name_of slot) (names_of page) ≡ Here k → insert_outcome page slot room ≡ refuse Present
 unfolding insert_outcome
 insert_present page slot room k (layout, (slot_layout, (order, _))) e = rw (layout, slot_layout, order, (is_here_lem (name_of slot) (names_of page) k e).0)
 
-pub insert_refused : (page slot : Bytes) (room : ℕ) (r : Refusal) → in_order (edit_tests page slot) NotChecked Checked ≡ NotChecked r → insert_outcome page slot room ≡ refuse r
+pub insert_refused : (page slot : Bytes) (room : ℕ) (r : Refusal) → in_order (edit_tests page slot) Err (Ok tt) ≡ Err r → insert_outcome page slot room ≡ refuse r
 unfolding insert_outcome
 insert_refused page slot room r e = turned_away page slot r _ e
 
@@ -188,13 +188,13 @@ module _ {page slot : Bytes} {k : ℕ} (v : AtSlot page slot k) where
   pub remove_short : (room : ℕ) → room < length page - slot_size → remove_outcome page slot room ≡ refuse Short
   remove_short room g = removes_into room ∙ writes_short fewer_slots room (rw left_bytes (omega (arith, left_long)))
 
-  pub remove_done : (room : ℕ) → length page - slot_size ≤ room → remove_outcome page slot room ≡ record { answer = Accepted (length page / slot_size - 1); bytes = fewer_bytes }
+  pub remove_done : (room : ℕ) → length page - slot_size ≤ room → remove_outcome page slot room ≡ record { answer = Ok (length page / slot_size - 1); bytes = fewer_bytes }
   remove_done room g = removes_into room ∙ writes fewer_slots room (length page / slot_size - 1) fewer_bytes left_number left_bytes (omega (arith, left_long))
 
 pub remove_absent : (page slot : Bytes) (room k : ℕ) → Passed (edit_tests page slot) → place_of (name_of slot) (names_of page) ≡ Gap k → remove_outcome page slot room ≡ refuse Absent
 unfolding remove_outcome
 remove_absent page slot room k (layout, (slot_layout, (order, _))) e = rw (layout, slot_layout, order, (is_gap (name_of slot) (names_of page) k e).0)
 
-pub remove_refused : (page slot : Bytes) (room : ℕ) (r : Refusal) → in_order (edit_tests page slot) NotChecked Checked ≡ NotChecked r → remove_outcome page slot room ≡ refuse r
+pub remove_refused : (page slot : Bytes) (room : ℕ) (r : Refusal) → in_order (edit_tests page slot) Err (Ok tt) ≡ Err r → remove_outcome page slot room ≡ refuse r
 unfolding remove_outcome
 remove_refused page slot room r e = turned_away page slot r _ e

@@ -6,9 +6,10 @@ use mathlib.Core.Bool.{Bool, true, false, cond, ◌||◌}
 use Prim.Native.Nat.{ℕ, suc, ◌<◌, ◌≤◌}
 use native.Mathlib.Omega.{arith}
 use lib.ListN.{length, take, drop}
-use Rattle.names.specs.declared.Order.{Order}
-use Rattle.names.specs.declared.Order.TheVariants.{Same}
-use Rattle.names.specs.Ordering.{Row, compare_rows, is_less, is_same, ◌<ⁿ◌, Rising, one, more}
+use Rattle.std.specs.declared.cmp.Ordering.{Ordering}
+use Rattle.std.specs.declared.cmp.Ordering.TheVariants.{Equal}
+use Rattle.names.specs.Ordering.{Row, compare_rows, ◌<ⁿ◌, Rising, one, more}
+use Rattle.std.specs.Ordering.{is_lt, is_eq}
 use Rattle.names.proofs.Laws.{tail_rising, <ⁿ_trans, Tri, below as is_below, level, above, tri_n, row_less, row_more, row_same}
 use Rattle.numbers.proofs.Bools.{yes_no}
 use Rattle.slots.specs.Slots.{Slot}
@@ -58,15 +59,15 @@ placed_split x [] r e = refl
 placed_split x (y ∷ l) r e = go (compare_rows y.name x.name) (tri_n y.name x.name) (placed_split x l (tail_rising r))
   where
     go :
-        (o : Order) → Tri ◌<ⁿ◌ y.name x.name o →
+        (o : Ordering) → Tri ◌<ⁿ◌ y.name x.name o →
         (has x.name (map name_in l) ≡ false → placed x l ≡ with_at x (below x.name (map name_in l)) l) →
         placed x (y ∷ l) ≡ with_at x (below x.name (map name_in (y ∷ l))) (y ∷ l)
     go _ (is_below h) f =
-        let n : has x.name (map name_in l) ≡ false = sym (ap (λ (o : Order). is_same o || has x.name (map name_in l)) (row_less h)) ∙ e in
+        let n : has x.name (map name_in l) ≡ false = sym (ap (λ (o : Ordering). is_eq o || has x.name (map name_in l)) (row_less h)) ∙ e in
         rw (row_more h, row_less h) (ap (λ (r : List Slot). y ∷ r) (f n))
     go _ (level h) f =
-        let s : compare_rows y.name x.name ≡ Same = ap (λ (a : Row). compare_rows a x.name) h ∙ row_same x.name in
-        yes_no (ap (λ (o : Order). is_same o || has x.name (map name_in l)) s) e
+        let s : compare_rows y.name x.name ≡ Equal = ap (λ (a : Row). compare_rows a x.name) h ∙ row_same x.name in
+        yes_no (ap (λ (o : Ordering). is_eq o || has x.name (map name_in l)) s) e
     go _ (above h) f =
         let b = over_below (lift h (rising_over r)) in
         rw (row_less h, row_more h, b)
@@ -82,25 +83,25 @@ without_split a [] r e = yes_no e refl
 without_split a (y ∷ l) r e = go (compare_rows y.name a) (tri_n y.name a) (without_split a l (tail_rising r))
   where
     go :
-        (o : Order) → Tri ◌<ⁿ◌ y.name a o →
+        (o : Ordering) → Tri ◌<ⁿ◌ y.name a o →
         (has a (map name_in l) ≡ true → without a l ≡ without_at (below a (map name_in l)) l) →
         without a (y ∷ l) ≡ without_at (below a (map name_in (y ∷ l))) (y ∷ l)
     go _ (is_below h) f =
-        let n : has a (map name_in l) ≡ true = sym (ap (λ (o : Order). is_same o || has a (map name_in l)) (row_less h)) ∙ e in
+        let n : has a (map name_in l) ≡ true = sym (ap (λ (o : Ordering). is_eq o || has a (map name_in l)) (row_less h)) ∙ e in
         rw (row_less h) (ap (λ (r : List Slot). y ∷ r) (f n))
     go _ (level h) f =
-        let s : compare_rows y.name a ≡ Same = ap (λ (b : Row). compare_rows b a) h ∙ row_same a in
+        let s : compare_rows y.name a ≡ Equal = ap (λ (b : Row). compare_rows b a) h ∙ row_same a in
         let o : Over a (map name_in l) = rw h at (rising_over r) in
         rw (s, over_below o) (without_over a l o)
     go _ (above h) f =
-        let n : has a (map name_in l) ≡ true = sym (ap (λ (o : Order). is_same o || has a (map name_in l)) (row_more h)) ∙ e in
+        let n : has a (map name_in l) ≡ true = sym (ap (λ (o : Ordering). is_eq o || has a (map name_in l)) (row_more h)) ∙ e in
         yes_no n (over_has (lift h (rising_over r)))
 
 -- ── where ──
 
 pub below_most : (a : Row) (l : List Row) → below a l ≤ length l
 below_most a [] = omega arith
-below_most a (x ∷ l) = go (is_less (compare_rows x a)) (below_most a l)
+below_most a (x ∷ l) = go (is_lt (compare_rows x a)) (below_most a l)
   where
     go : (b : Bool) → below a l ≤ length l → cond b (suc (below a l)) (below a l) ≤ suc (length l)
     go true h = omega arith
@@ -110,16 +111,16 @@ pub below_less : (a : Row) (l : List Row) → Rising l → has a l ≡ true → 
 below_less a [] r e = yes_no e refl
 below_less a (x ∷ l) r e = go (compare_rows x a) (tri_n x a) (below_less a l (tail_rising r))
   where
-    go : (o : Order) → Tri ◌<ⁿ◌ x a o → (has a l ≡ true → below a l < length l) → below a (x ∷ l) < suc (length l)
+    go : (o : Ordering) → Tri ◌<ⁿ◌ x a o → (has a l ≡ true → below a l < length l) → below a (x ∷ l) < suc (length l)
     go _ (is_below h) f =
-        let n : has a l ≡ true = sym (ap (λ (o : Order). is_same o || has a l) (row_less h)) ∙ e in
+        let n : has a l ≡ true = sym (ap (λ (o : Ordering). is_eq o || has a l) (row_less h)) ∙ e in
         rw (row_less h) (let g = f n in omega arith)
     go _ (level h) f =
-        let s : compare_rows x a ≡ Same = ap (λ (b : Row). compare_rows b a) h ∙ row_same a in
+        let s : compare_rows x a ≡ Equal = ap (λ (b : Row). compare_rows b a) h ∙ row_same a in
         let o : Over a l = rw h at (rising_over r) in
         rw (s, over_below o) (omega arith)
     go _ (above h) f =
-        let n : has a l ≡ true = sym (ap (λ (o : Order). is_same o || has a l) (row_more h)) ∙ e in
+        let n : has a l ≡ true = sym (ap (λ (o : Ordering). is_eq o || has a l) (row_more h)) ∙ e in
         yes_no n (over_has (lift h (rising_over r)))
 
 -- what a place says

@@ -1,6 +1,7 @@
 -- Insert and remove: document 01, "Taking it back", last paragraph, and "What comes back".
 use Rattle.std.specs.Prelude.{ℕ, List, [], ◌∷◌, ◌++◌, cond, not, length, ltb}
-use Rattle.names.specs.Ordering.{Row, compare_rows, is_less, is_same}
+use Rattle.names.specs.Ordering.{Row, compare_rows}
+use Rattle.std.specs.Ordering.{is_lt, is_eq}
 use Rattle.numbers.specs.Bytes.{Bytes}
 use Rattle.slots.specs.Slots.{Slot, name_of, slot_of, keeps_slot}
 use Rattle.answers.specs.Answers.{Test, ◌else◌, Outcome, outcome}
@@ -11,12 +12,12 @@ use Rattle.answers.specs.declared.Refusal.TheVariants.{BadLayout, NotRising, Pre
 -- "the page with the given slot at its rising place": before the first slot whose name is above its own
 abbrev pub placed : Slot → List Slot → List Slot
 placed x [] = x ∷ []
-placed x (y ∷ l) = cond (is_less (compare_rows x.name y.name)) (x ∷ y ∷ l) (y ∷ placed x l)
+placed x (y ∷ l) = cond (is_lt (compare_rows x.name y.name)) (x ∷ y ∷ l) (y ∷ placed x l)
 
 -- the page "without the slot of that name"
 abbrev pub without : Row → List Slot → List Slot
 without a [] = []
-without a (y ∷ l) = cond (is_same (compare_rows y.name a)) (without a l) (y ∷ without a l)
+without a (y ∷ l) = cond (is_eq (compare_rows y.name a)) (without a l) (y ∷ without a l)
 
 -- "insert 1 (page), 1 (slot), 2, ..; remove 1, 1, 2, ..": how both begin
 abbrev pub edit_tests : Bytes → Bytes → List Test

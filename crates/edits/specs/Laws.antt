@@ -7,12 +7,12 @@ use Rattle.slots.specs.Slots.{name_of, slot_of}
 use Rattle.answers.specs.Answers.{Outcome}
 use Rattle.pages.specs.Pages.{slots_of}
 use Rattle.pages.specs.Laws.{IsPage}
-use Rattle.answers.specs.declared.Answer.TheVariants.{Accepted}
+use Rattle.std.specs.declared.result.Result.TheVariants.{Ok}
 use Rattle.edits.specs.Edits.{placed, without, insert_outcome, remove_outcome}
 
 -- the outcome that gives a page back: its bytes, and as many slots as it has
 abbrev pub gives_back : Bytes → Outcome
-gives_back page = record { answer = Accepted (length (slots_of page)); bytes = page }
+gives_back page = record { answer = Ok (length (slots_of page)); bytes = page }
 
 -- What an accepted insert has written is a page, and its slots are "the page with the given slot at its rising place".
 pub record Inserted (page slot written : Bytes) : Type 0 where
@@ -23,7 +23,7 @@ pub record Inserted (page slot written : Bytes) : Type 0 where
 
 abbrev pub InsertLaw : Type 0
 InsertLaw =
-    (page slot : Bytes) → Octets page → Octets slot → (room n : ℕ) → (insert_outcome page slot room).answer ≡ Accepted n →
+    (page slot : Bytes) → Octets page → Octets slot → (room n : ℕ) → (insert_outcome page slot room).answer ≡ Ok n →
     Inserted page slot (insert_outcome page slot room).bytes
 
 -- What an accepted remove has written is a page, and its slots are the page's "without the slot of that name".
@@ -35,5 +35,5 @@ pub record Removed (page slot written : Bytes) : Type 0 where
 
 abbrev pub RemoveLaw : Type 0
 RemoveLaw =
-    (page slot : Bytes) → Octets page → Octets slot → (room n : ℕ) → (remove_outcome page slot room).answer ≡ Accepted n →
+    (page slot : Bytes) → Octets page → Octets slot → (room n : ℕ) → (remove_outcome page slot room).answer ≡ Ok n →
     Removed page slot (remove_outcome page slot room).bytes

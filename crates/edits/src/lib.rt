@@ -46,15 +46,15 @@ enum Checked {
 
 // 1 (page), 1 (slot), 2. The slot is looked at first, since both refuse with 1.
 fn check_edit(page: &[u8], slot: &[u8]) -> Checked
-    ensures { result ≡ in_order (edit_tests page.now slot.now) Checked.Refused Checked.Passed }
+    ensures { result ≡ in_order (edit_tests page.now slot.now) Err (Ok tt) }
 {
     if !pages::slot_ok(slot) {
-        return Checked::Refused(Refusal::BadLayout);
+        return Err(Refusal::BadLayout);
     }
     match pages::look(page) {
-        Seen::Broken => Checked::Refused(Refusal::BadLayout),
-        Seen::NotRising => Checked::Refused(Refusal::NotRising),
-        Seen::Rising => Checked::Passed,
+        Seen::Broken => Err(Refusal::BadLayout),
+        Seen::NotRising => Err(Refusal::NotRising),
+        Seen::Rising => Ok(()),
     }
 }
 
@@ -66,13 +66,13 @@ fn insert_at(page: &[u8], slot: &[u8], k: usize, out: &mut [u8]) -> Answer
     ensures out_after { out.new ≡ leaves (insert_outcome page.now slot.now (length out.old)) out.old }
 {
     if PAGE <= page.len() {
-        return Answer::Refused(Refusal::Full);
+        return Err(Refusal::Full);
     }
     if out.len() < page.len() + SLOT {
-        return Answer::Refused(Refusal::Short);
+        return Err(Refusal::Short);
     }
     write_with(page, slot, k, out);
-    Answer::Accepted(page.len() / SLOT + 1)
+    Ok(page.len() / SLOT + 1)
 }
 
 // 8; else the page without slot k, which has the name. The tests before this have passed.
@@ -83,10 +83,10 @@ fn remove_at(page: &[u8], slot: &[u8], k: usize, out: &mut [u8]) -> Answer
     ensures out_after { out.new ≡ leaves (remove_outcome page.now slot.now (length out.old)) out.old }
 {
     if out.len() < page.len() - SLOT {
-        return Answer::Refused(Refusal::Short);
+        return Err(Refusal::Short);
     }
     write_without(page, k, out);
-    Answer::Accepted(page.len() / SLOT - 1)
+    Ok(page.len() / SLOT - 1)
 }
 
 // 1 (page), 1 (slot), 2, 9, 11, 8; else the page with the slot at its rising place.
@@ -95,11 +95,11 @@ pub fn insert(page: &[u8], slot: &[u8], out: &mut [u8]) -> Answer
     ensures out_after { out.new ≡ leaves (insert_outcome page.now slot.now (length out.old)) out.old }
 {
     match check_edit(page, slot) {
-        Checked::Refused(r) => return Answer::Refused(r),
-        Checked::Passed => {}
+        Err(r) => return Err(r),
+        Ok(()) => {}
     }
     match pages::find(page, slot) {
-        Place::Here(_) => Answer::Refused(Refusal::Present),
+        Place::Here(_) => Err(Refusal::Present),
         Place::Gap(k) => insert_at(page, slot, k, out),
     }
 }
@@ -110,11 +110,11 @@ pub fn remove(page: &[u8], slot: &[u8], out: &mut [u8]) -> Answer
     ensures out_after { out.new ≡ leaves (remove_outcome page.now slot.now (length out.old)) out.old }
 {
     match check_edit(page, slot) {
-        Checked::Refused(r) => return Answer::Refused(r),
-        Checked::Passed => {}
+        Err(r) => return Err(r),
+        Ok(()) => {}
     }
     match pages::find(page, slot) {
         Place::Here(k) => remove_at(page, slot, k, out),
-        Place::Gap(_) => Answer::Refused(Refusal::Absent),
+        Place::Gap(_) => Err(Refusal::Absent),
     }
 }

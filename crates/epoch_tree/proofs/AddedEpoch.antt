@@ -10,9 +10,9 @@ use Prim.Native.Nat.{ℕ, zero, suc, ◌+◌, ◌-◌, ◌<◌, ◌≤◌}
 use native.Mathlib.Omega.{arith}
 use lib.ListN.{length, length-append, get_or-append, get_or-eq_default}
 use lib.Seq.{get_or-append_seam}
-use Rattle.names.specs.declared.Order.{Order}
-use Rattle.names.specs.declared.Order.TheVariants.{Less, Same, More}
-use Rattle.names.specs.Ordering.{is_less}
+use Rattle.std.specs.declared.cmp.Ordering.{Ordering}
+use Rattle.std.specs.declared.cmp.Ordering.TheVariants.{Less, Equal, Greater}
+use Rattle.std.specs.Ordering.{is_lt}
 use Rattle.names.proofs.Laws.{ℕ_cases}
 use Rattle.numbers.proofs.Bools.{yes_no}
 use Rattle.epoch_tree.specs.Tables.{Entry, zero_entry, entry_at, is_count, is_table, added}
@@ -156,7 +156,7 @@ module _ (t : List Entry) (h : Table t) (e : Entry) where
     greatest_kept (suc n) l =
         let k : greatest_to t n ≤ n = greatest_in t h n in
         ap (λ (g : ℕ). greater (added t e) g (suc n)) (greatest_kept n (omega arith))
-        ∙ ap (λ (o : Order). cond (is_less o) (suc n) (greatest_to t n)) (added_compare (greatest_to t n) (suc n) (omega arith) l)
+        ∙ ap (λ (o : Ordering). cond (is_lt o) (suc n) (greatest_to t n)) (added_compare (greatest_to t n) (suc n) (omega arith) l)
 
     greatest_at : (i : ℕ) → i ≡ length t → greatest_to (added t e) i ≡ greater (added t e) (target t) i
     greatest_at zero q = absurd (let k : 0 < length t = h.some in omega arith)
@@ -175,10 +175,10 @@ module _ (t : List Entry) (h : Table t) (e : Entry) where
     new_target = go (compare_epochs (added t e) (target t) (length t)) refl added_target
       where
         go :
-            (o : Order) →
+            (o : Ordering) →
             compare_epochs (added t e) (target t) (length t) ≡ o →
-            target (added t e) ≡ cond (is_less o) (length t) (target t) →
+            target (added t e) ≡ cond (is_lt o) (length t) (target t) →
             (target (added t e) ≡ target t) ⊎ ((target (added t e) ≡ length t) × Smaller (added t e) (target t) (length t))
         go Less s q = inr (q, s)
-        go Same s q = inl q
-        go More s q = inl q
+        go Equal s q = inl q
+        go Greater s q = inl q

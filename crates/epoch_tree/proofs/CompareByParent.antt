@@ -7,9 +7,9 @@ use mathlib.Core.List.{List, [], ◌∷◌, ◌++◌, map, append_assoc}
 use Prim.Native.Nat.{ℕ, zero, suc, ◌+◌, ◌<◌, ◌≤◌}
 use native.Mathlib.Omega.{arith}
 use lib.ListN.{length}
-use Rattle.names.specs.declared.Order.{Order}
-use Rattle.names.specs.declared.Order.TheVariants.{Less, Same, More}
-use Rattle.names.specs.Ordering.{then}
+use Rattle.std.specs.declared.cmp.Ordering.{Ordering}
+use Rattle.std.specs.declared.cmp.Ordering.TheVariants.{Less, Equal, Greater}
+use Rattle.std.specs.Ordering.{ordering_then}
 use Rattle.names.proofs.Laws.{then_same, tuple_same, same_tuple}
 use Rattle.epoch_tree.specs.Tables.{Entry, entry_at}
 use Rattle.epoch_tree.specs.Tree.{parent_of, route, path, compare_keys, compare_paths, compare_epochs}
@@ -17,22 +17,22 @@ use Rattle.epoch_tree.proofs.TableFacts.{Table}
 use Rattle.epoch_tree.proofs.Routes.{Snoc, none, some, snoc, snoc_length, snoc_same, route_suc, route_ends, route_begins, route_same, beginning, path_suc}
 use Rattle.epoch_tree.proofs.OrderAndTarget.{key_tuple, keys_tuples, keys_index}
 
-pub key_same : (e : Entry) → compare_keys e e ≡ Same
+pub key_same : (e : Entry) → compare_keys e e ≡ Equal
 key_same e = keys_tuples e e ∙ tuple_same (key_tuple e)
 
 last_differ : (p : List Entry) (e f : Entry) → compare_paths (p ++ (e ∷ [])) (p ++ (f ∷ [])) ≡ compare_keys e f
 last_differ [] e f = then_same (compare_keys e f)
-last_differ (x ∷ p) e f = ap (λ (o : Order). then o (compare_paths (p ++ (e ∷ [])) (p ++ (f ∷ [])))) (key_same x) ∙ last_differ p e f
+last_differ (x ∷ p) e f = ap (λ (o : Ordering). ordering_then o (compare_paths (p ++ (e ∷ [])) (p ++ (f ∷ [])))) (key_same x) ∙ last_differ p e f
 
-paths_same : (p : List Entry) → compare_paths p p ≡ Same
+paths_same : (p : List Entry) → compare_paths p p ≡ Equal
 paths_same [] = refl
-paths_same (e ∷ p) = ap (λ (o : Order). then o (compare_paths p p)) (key_same e) ∙ paths_same p
+paths_same (e ∷ p) = ap (λ (o : Ordering). ordering_then o (compare_paths p p)) (key_same e) ∙ paths_same p
 
-pub same_epoch : (t : List Entry) (i : ℕ) → compare_epochs t i i ≡ Same
+pub same_epoch : (t : List Entry) (i : ℕ) → compare_epochs t i i ≡ Equal
 same_epoch t i = paths_same (path t i)
 
 module _ (t : List Entry) (h : Table t) where
-  pub key_index : (i j : ℕ) → i < length t → j < length t → compare_keys (entry_at t i) (entry_at t j) ≡ Same → i ≡ j
+  pub key_index : (i j : ℕ) → i < length t → j < length t → compare_keys (entry_at t i) (entry_at t j) ≡ Equal → i ≡ j
   key_index i j a b e = keys_index t h i j a b (same_tuple (key_tuple (entry_at t i)) (key_tuple (entry_at t j)) (sym (keys_tuples (entry_at t i) (entry_at t j)) ∙ e))
 
   -- each index of the list is in the table
@@ -51,35 +51,35 @@ module _ (t : List Entry) (h : Table t) where
 
   longer :
       (p q : List ℕ) (i : ℕ) → Inside p → Inside q → NotOver p q →
-      compare_paths (entries (p ++ (i ∷ []))) (entries q) ≡ then (compare_paths (entries p) (entries q)) More
+      compare_paths (entries (p ++ (i ∷ []))) (entries q) ≡ ordering_then (compare_paths (entries p) (entries q)) Greater
   longer [] [] i a b n = refl
   longer [] (y ∷ q) i a b n = absurd (n y q refl)
   longer (x ∷ p) [] i a b n = refl
   longer (x ∷ p) (y ∷ q) i a b n = go (compare_keys (entry_at t x) (entry_at t y)) refl (λ e. longer p q i (inner a) (inner b) (λ k u d. n k u (λ z. sym e z ∷ d z)))
     where
       go :
-          (o : Order) → compare_keys (entry_at t x) (entry_at t y) ≡ o →
-          (x ≡ y → compare_paths (entries (p ++ (i ∷ []))) (entries q) ≡ then (compare_paths (entries p) (entries q)) More) →
-          then o (compare_paths (entries (p ++ (i ∷ []))) (entries q)) ≡ then (then o (compare_paths (entries p) (entries q))) More
+          (o : Ordering) → compare_keys (entry_at t x) (entry_at t y) ≡ o →
+          (x ≡ y → compare_paths (entries (p ++ (i ∷ []))) (entries q) ≡ ordering_then (compare_paths (entries p) (entries q)) Greater) →
+          ordering_then o (compare_paths (entries (p ++ (i ∷ []))) (entries q)) ≡ ordering_then (ordering_then o (compare_paths (entries p) (entries q))) Greater
       go Less e f = refl
-      go Same e f = f (key_index x y (a [] x p refl) (b [] y q refl) e)
-      go More e f = refl
+      go Equal e f = f (key_index x y (a [] x p refl) (b [] y q refl) e)
+      go Greater e f = refl
 
   longer_second :
       (p q : List ℕ) (j : ℕ) → Inside p → Inside q → NotOver q p →
-      compare_paths (entries p) (entries (q ++ (j ∷ []))) ≡ then (compare_paths (entries p) (entries q)) Less
+      compare_paths (entries p) (entries (q ++ (j ∷ []))) ≡ ordering_then (compare_paths (entries p) (entries q)) Less
   longer_second [] [] j a b n = refl
   longer_second [] (y ∷ q) j a b n = refl
   longer_second (x ∷ p) [] j a b n = absurd (n x p refl)
   longer_second (x ∷ p) (y ∷ q) j a b n = go (compare_keys (entry_at t x) (entry_at t y)) refl (λ e. longer_second p q j (inner a) (inner b) (λ k u d. n k u (λ z. e z ∷ d z)))
     where
       go :
-          (o : Order) → compare_keys (entry_at t x) (entry_at t y) ≡ o →
-          (x ≡ y → compare_paths (entries p) (entries (q ++ (j ∷ []))) ≡ then (compare_paths (entries p) (entries q)) Less) →
-          then o (compare_paths (entries p) (entries (q ++ (j ∷ [])))) ≡ then (then o (compare_paths (entries p) (entries q))) Less
+          (o : Ordering) → compare_keys (entry_at t x) (entry_at t y) ≡ o →
+          (x ≡ y → compare_paths (entries p) (entries (q ++ (j ∷ []))) ≡ ordering_then (compare_paths (entries p) (entries q)) Less) →
+          ordering_then o (compare_paths (entries p) (entries (q ++ (j ∷ [])))) ≡ ordering_then (ordering_then o (compare_paths (entries p) (entries q))) Less
       go Less e f = refl
-      go Same e f = f (key_index x y (a [] x p refl) (b [] y q refl) e)
-      go More e f = refl
+      go Equal e f = f (key_index x y (a [] x p refl) (b [] y q refl) e)
+      go Greater e f = refl
 
   inside : (d : ℕ) → d < length t → Inside (route t d)
   inside d k l x u e = let b : x ≤ d = (beginning t h d l x u e).1 in omega arith
@@ -116,7 +116,7 @@ module _ (t : List Entry) (h : Table t) where
   root_first zero (suc j) l f =
       let b = more_than_root j in
       ap (λ (r : List ℕ). compare_paths (path t 0) (entries r)) b.1
-      ∙ ap (λ (o : Order). then o (compare_paths [] (entries (b.0 ++ (suc j ∷ []))))) (key_same (entry_at t 0))
+      ∙ ap (λ (o : Ordering). ordering_then o (compare_paths [] (entries (b.0 ++ (suc j ∷ []))))) (key_same (entry_at t 0))
       ∙ go b.0
     where
       go : (l : List ℕ) → compare_paths [] (entries (l ++ (suc j ∷ []))) ≡ Less
@@ -124,16 +124,16 @@ module _ (t : List Entry) (h : Table t) where
       go (x ∷ l) = refl
   root_first (suc i) j l f = absurd (omega arith)
 
-  pub root_second : (i j : ℕ) → 1 ≤ i → j < 1 → compare_epochs t i j ≡ More
+  pub root_second : (i j : ℕ) → 1 ≤ i → j < 1 → compare_epochs t i j ≡ Greater
   root_second zero j k l = absurd (omega arith)
   root_second (suc i) (suc j) k l = absurd (omega arith)
   root_second (suc i) zero k l =
       let b = more_than_root i in
       ap (λ (r : List ℕ). compare_paths (entries r) (path t 0)) b.1
-      ∙ ap (λ (o : Order). then o (compare_paths (entries (b.0 ++ (suc i ∷ []))) [])) (key_same (entry_at t 0))
+      ∙ ap (λ (o : Ordering). ordering_then o (compare_paths (entries (b.0 ++ (suc i ∷ []))) [])) (key_same (entry_at t 0))
       ∙ go b.0
     where
-      go : (l : List ℕ) → compare_paths (entries (l ++ (suc i ∷ []))) [] ≡ More
+      go : (l : List ℕ) → compare_paths (entries (l ++ (suc i ∷ []))) [] ≡ Greater
       go [] = refl
       go (x ∷ l) = refl
 
@@ -148,7 +148,7 @@ module _ (t : List Entry) (h : Table t) where
   -- the first has the greater parent index
   pub up_first :
       (i j : ℕ) → i < length t → j < length t → 1 ≤ i → parent_of t j < parent_of t i →
-      compare_epochs t i j ≡ then (compare_epochs t (parent_of t i) j) More
+      compare_epochs t i j ≡ ordering_then (compare_epochs t (parent_of t i) j) Greater
   up_first zero j a b n l = absurd (omega arith)
   up_first (suc i) j a b n l =
       let k : parent_of t (suc i) ≤ i = h.parent i in
@@ -158,7 +158,7 @@ module _ (t : List Entry) (h : Table t) where
   -- the second has
   pub up_second :
       (i j : ℕ) → i < length t → j < length t → 1 ≤ j → parent_of t i < parent_of t j →
-      compare_epochs t i j ≡ then (compare_epochs t i (parent_of t j)) Less
+      compare_epochs t i j ≡ ordering_then (compare_epochs t i (parent_of t j)) Less
   up_second i zero a b n l = absurd (omega arith)
   up_second i (suc j) a b n l =
       let k : parent_of t (suc j) ≤ j = h.parent j in

@@ -6,9 +6,9 @@ use mathlib.Core.Bool.{true, false}
 use Prim.Native.Nat.{ℕ, suc, ◌<◌, ◌≤◌}
 use native.Mathlib.Omega.{arith}
 use lib.ListN.{length}
-use Rattle.names.specs.declared.Order.{Order}
-use Rattle.names.specs.declared.Order.TheVariants.{Less}
-use Rattle.names.specs.Ordering.{then}
+use Rattle.std.specs.declared.cmp.Ordering.{Ordering}
+use Rattle.std.specs.declared.cmp.Ordering.TheVariants.{Less}
+use Rattle.std.specs.Ordering.{ordering_then}
 use Rattle.names.proofs.Laws.{ℕ_less, ℕ_same}
 use Rattle.numbers.specs.Bytes.{Bytes, at16}
 use Rattle.numbers.proofs.Bools.{never}
@@ -21,14 +21,14 @@ use Rattle.epoch_tree.proofs.CompareByParent.{key_same, siblings}
 use Rattle.epoch_tree.proofs.TableBytes.{whole, checked, length_entries, entry_at_lem}
 
 fewer : (e f : Entry) → e.count < f.count → compare_keys e f ≡ Less
-fewer e f h = ap (λ (o : Order). then o (compare_pairs e f)) (ℕ_less e.count f.count h)
+fewer e f h = ap (λ (o : Ordering). ordering_then o (compare_pairs e f)) (ℕ_less e.count f.count h)
 
 as_many : (e f : Entry) → e.count ≡ f.count → compare_keys e f ≡ compare_pairs e f
-as_many e f h = ap (λ (o : Order). then o (compare_pairs e f)) (ℕ_same e.count f.count h)
+as_many e f h = ap (λ (o : Ordering). ordering_then o (compare_pairs e f)) (ℕ_same e.count f.count h)
 
 onwards : (p q r : List Entry) (e f : Entry) → e.count < f.count → compare_paths (p ++ (e ∷ q)) (p ++ (f ∷ r)) ≡ Less
-onwards [] q r e f h = ap (λ (o : Order). then o (compare_paths q r)) (fewer e f h)
-onwards (x ∷ p) q r e f h = ap (λ (o : Order). then o (compare_paths (p ++ (e ∷ q)) (p ++ (f ∷ r)))) (key_same x) ∙ onwards p q r e f h
+onwards [] q r e f h = ap (λ (o : Ordering). ordering_then o (compare_paths q r)) (fewer e f h)
+onwards (x ∷ p) q r e f h = ap (λ (o : Ordering). ordering_then o (compare_paths (p ++ (e ∷ q)) (p ++ (f ∷ r)))) (key_same x) ∙ onwards p q r e f h
 
 -- ── equal counts ──
 
@@ -45,7 +45,7 @@ by_pairs : (n : ℕ) (p q : List Entry) → Counted n p → Counted n q → comp
 by_pairs n [] [] a b = refl
 by_pairs n [] (f ∷ q) a b = refl
 by_pairs n (e ∷ p) [] a b = refl
-by_pairs n (e ∷ p) (f ∷ q) a b = λ i. then (as_many e f (a.0 ∙ sym b.0) i) (by_pairs n p q a.1 b.1 i)
+by_pairs n (e ∷ p) (f ∷ q) a b = λ i. ordering_then (as_many e f (a.0 ∙ sym b.0) i) (by_pairs n p q a.1 b.1 i)
 
 module _ (t : List Entry) (n : ℕ) (h : Table t) (equal : EqualCounts t n) where
   -- a path is entry 0, and then entries of that count
@@ -68,7 +68,7 @@ module _ (t : List Entry) (n : ℕ) (h : Table t) (equal : EqualCounts t n) wher
       let (q, f, d) = levelled j b in
       let first = entry_at t 0 in
       (λ z. compare_paths (e z) (f z))
-      ∙ (λ z. then (as_many first first refl z) (by_pairs n p q c d z))
+      ∙ (λ z. ordering_then (as_many first first refl z) (by_pairs n p q c d z))
       ∙ sym (λ z. compare_by_pairs (e z) (f z))
 
 under_one :

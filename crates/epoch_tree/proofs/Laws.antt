@@ -10,7 +10,7 @@ use borrow.Author.Tests.{leb-true}
 use lib.Dec.{leb}
 use lib.ListN.{length}
 use Rattle.numbers.proofs.Bools.{and_0, and_1}
-use Rattle.names.specs.declared.Order.{Order}
+use Rattle.std.specs.declared.cmp.Ordering.{Ordering}
 use Rattle.names.proofs.Laws.{Tri, below, level, above}
 use Rattle.epoch_tree.specs.declared.Step.{Step}
 use Rattle.epoch_tree.specs.Tables.{Entry, entry_at, is_table}
@@ -43,7 +43,7 @@ module _ (t : List Entry) (k : is_table t ≡ true) where
   traced_at zero a l = absurd (omega arith)
   traced_at (suc i) a l = path_suc t h i
 
-  two : (i j : ℕ) → ¬ (i ≡ j) → {o : Order} → Tri (Smaller t) i j o → Smaller t i j ⊎ Smaller t j i
+  two : (i j : ℕ) → ¬ (i ≡ j) → {o : Ordering} → Tri (Smaller t) i j o → Smaller t i j ⊎ Smaller t j i
   two i j f (below l) = inl l
   two i j f (level e) = absurd (f e)
   two i j f (above l) = inr l

@@ -12,9 +12,10 @@ use native.Mathlib.Omega.{arith}
 use lib.IntN.{pos}
 use lib.ListN.{length}
 use Rattle.names.specs.declared.Tuple.{Tuple}
-use Rattle.names.specs.declared.Order.{Order}
-use Rattle.names.specs.declared.Order.TheVariants.{Same}
-use Rattle.names.specs.Ordering.{Row, compare_ℕ, then, compare_tuples, compare_rows, is_less, ◌<ⁿ◌}
+use Rattle.std.specs.declared.cmp.Ordering.{Ordering}
+use Rattle.std.specs.declared.cmp.Ordering.TheVariants.{Equal}
+use Rattle.names.specs.Ordering.{Row, compare_ℕ, compare_tuples, compare_rows, ◌<ⁿ◌}
+use Rattle.std.specs.Ordering.{ordering_then, is_lt}
 use Rattle.names.proofs.Laws.{then_same, ℕ_cases, Tri, below, level, above, tri_n, <ⁿ_trans, <ⁿ_irrefl, row_less, row_same, less_row, same_row, same_tuple}
 use Rattle.epoch_tree.specs.Tables.{Entry, entry_at}
 use Rattle.epoch_tree.specs.Tree.{path, compare_keys, compare_paths, compare_epochs, Smaller, greatest_to, target}
@@ -32,25 +33,25 @@ key_row p = map key_tuple p
 pub keys_tuples : (e f : Entry) → compare_keys e f ≡ compare_tuples (key_tuple e) (key_tuple f)
 unfolding compare_tuples
 keys_tuples e f =
-    ap (λ (o : Order). then (compare_ℕ e.count f.count) (then (compare_ℕ e.node f.node) o)) (sym (then_same (compare_ℕ e.sequence f.sequence)))
+    ap (λ (o : Ordering). ordering_then (compare_ℕ e.count f.count) (ordering_then (compare_ℕ e.node f.node) o)) (sym (then_same (compare_ℕ e.sequence f.sequence)))
 
 pub paths_rows : (p q : List Entry) → compare_paths p q ≡ compare_rows (key_row p) (key_row q)
 unfolding compare_rows
 paths_rows [] [] = refl
 paths_rows [] (f ∷ q) = refl
 paths_rows (e ∷ p) [] = refl
-paths_rows (e ∷ p) (f ∷ q) = λ i. then (keys_tuples e f i) (paths_rows p q i)
+paths_rows (e ∷ p) (f ∷ q) = λ i. ordering_then (keys_tuples e f i) (paths_rows p q i)
 
 -- ── paths that agree ──
 
-pub same_rows : (p q : List Entry) → compare_paths p q ≡ Same → key_row p ≡ key_row q
+pub same_rows : (p q : List Entry) → compare_paths p q ≡ Equal → key_row p ≡ key_row q
 same_rows p q e = same_row (key_row p) (key_row q) (sym (paths_rows p q) ∙ e)
 
 key_end : (p : List Entry) (e : Entry) → key_row (p ++ (e ∷ [])) ≡ key_row p ++ (key_tuple e ∷ [])
 key_end p e = map-append key_tuple p (e ∷ [])
 
 -- each with one entry more, of one key
-pub agree_on : (p q : List Entry) (e f : Entry) → compare_paths p q ≡ Same → compare_keys e f ≡ Same → compare_paths (p ++ (e ∷ [])) (q ++ (f ∷ [])) ≡ Same
+pub agree_on : (p q : List Entry) (e f : Entry) → compare_paths p q ≡ Equal → compare_keys e f ≡ Equal → compare_paths (p ++ (e ∷ [])) (q ++ (f ∷ [])) ≡ Equal
 agree_on p q e f a b =
     let rows = same_rows p q a in
     let keys = same_tuple (key_tuple e) (key_tuple f) (sym (keys_tuples e f) ∙ b) in
@@ -105,7 +106,7 @@ module _ (t : List Entry) where
     pub smaller_tri : (i j : ℕ) → i < length t → j < length t → Tri (Smaller t) i j (compare_epochs t i j)
     smaller_tri i j a b = subst (Tri (Smaller t) i j) (sym (paths_rows (path t i) (path t j))) (go (tri_n (key_row (path t i)) (key_row (path t j))))
       where
-        go : {o : Order} → Tri ◌<ⁿ◌ (key_row (path t i)) (key_row (path t j)) o → Tri (Smaller t) i j o
+        go : {o : Ordering} → Tri ◌<ⁿ◌ (key_row (path t i)) (key_row (path t j)) o → Tri (Smaller t) i j o
         go (below l) = below (row_smaller i j l)
         go (level e) = level (rows_same i j a b e)
         go (above l) = above (row_smaller j i l)
@@ -118,7 +119,7 @@ module _ (t : List Entry) where
 
     pub greatest_in : (n : ℕ) → greatest_to t n ≤ n
     greatest_in zero = le_refl 0
-    greatest_in (suc n) = go (is_less (compare_epochs t (greatest_to t n) (suc n))) (greatest_in n)
+    greatest_in (suc n) = go (is_lt (compare_epochs t (greatest_to t n) (suc n))) (greatest_in n)
       where
         go : (b : Bool) → greatest_to t n ≤ n → cond b (suc n) (greatest_to t n) ≤ suc n
         go true k = le_refl (suc n)
@@ -134,8 +135,8 @@ module _ (t : List Entry) where
         in_n = greatest_in n
 
         go :
-            {o : Order} → Tri (Smaller t) (greatest_to t n) (suc n) o → (i ≤ n → (i ≡ greatest_to t n) ⊎ Smaller t i (greatest_to t n)) →
-            (i ≡ cond (is_less o) (suc n) (greatest_to t n)) ⊎ Smaller t i (cond (is_less o) (suc n) (greatest_to t n))
+            {o : Ordering} → Tri (Smaller t) (greatest_to t n) (suc n) o → (i ≤ n → (i ≡ greatest_to t n) ⊎ Smaller t i (greatest_to t n)) →
+            (i ≡ cond (is_lt o) (suc n) (greatest_to t n)) ⊎ Smaller t i (cond (is_lt o) (suc n) (greatest_to t n))
         go (below s) f = elim (ℕ_cases i (suc n)) [
           | inl q ↦ elim (f (omega arith)) [
             | inl e ↦ inr (subst (λ (x : ℕ). Smaller t x (suc n)) (sym e) s)

@@ -7,48 +7,48 @@ use mathlib.Core.List.{List}
 use mathlib.Core.Bool.{Bool, true, false, cond}
 use Prim.Native.Nat.{ℕ, ◌<◌, ◌≤◌}
 use lib.ListN.{length}
-use Rattle.names.specs.declared.Order.{Order}
-use Rattle.names.specs.declared.Order.TheVariants.{Less, Same, More}
-use Rattle.names.specs.Ordering.{then, is_less}
+use Rattle.std.specs.declared.cmp.Ordering.{Ordering}
+use Rattle.std.specs.declared.cmp.Ordering.TheVariants.{Less, Equal, Greater}
+use Rattle.std.specs.Ordering.{ordering_then, is_lt}
 use Rattle.epoch_tree.specs.Tables.{Entry, entry_at}
 use Rattle.epoch_tree.specs.Tree.{parent_of, compare_keys, compare_epochs}
 use Rattle.epoch_tree.proofs.TableFacts.{Table}
 use Rattle.epoch_tree.proofs.CompareByParent.{same_epoch, root_first, root_second, siblings, up_first, up_second, key_index}
 
 -- a comparison, and what is told where it does not decide
-abbrev told : Bool → Order → Bool
-told tie o = is_less (then o (cond tie Less More))
+abbrev told : Bool → Ordering → Bool
+told tie o = is_lt (ordering_then o (cond tie Less Greater))
 
 abbrev pub smaller_or : Bool → List Entry → ℕ → ℕ → Bool
 smaller_or tie t i j = told tie (compare_epochs t i j)
 
-told_tie : (tie : Bool) → told tie Same ≡ tie
+told_tie : (tie : Bool) → told tie Equal ≡ tie
 told_tie true = refl
 told_tie false = refl
 
-told_more : (tie : Bool) (o : Order) → told tie (then o More) ≡ told false o
+told_more : (tie : Bool) (o : Ordering) → told tie (ordering_then o Greater) ≡ told false o
 told_more tie Less = refl
-told_more tie Same = refl
-told_more tie More = refl
+told_more tie Equal = refl
+told_more tie Greater = refl
 
-told_less : (tie : Bool) (o : Order) → told tie (then o Less) ≡ told true o
+told_less : (tie : Bool) (o : Ordering) → told tie (ordering_then o Less) ≡ told true o
 told_less tie Less = refl
-told_less tie Same = refl
-told_less tie More = refl
+told_less tie Equal = refl
+told_less tie Greater = refl
 
 -- where it decides, the tie is not asked for
-told_decided : (tie : Bool) (o : Order) → (o ≡ Same → ⊥) → told tie o ≡ is_less o
+told_decided : (tie : Bool) (o : Ordering) → (o ≡ Equal → ⊥) → told tie o ≡ is_lt o
 told_decided tie Less f = refl
-told_decided tie Same f = absurd (f refl)
-told_decided tie More f = refl
+told_decided tie Equal f = absurd (f refl)
+told_decided tie Greater f = refl
 
-told_no : (o : Order) → told false o ≡ is_less o
+told_no : (o : Ordering) → told false o ≡ is_lt o
 told_no Less = refl
-told_no Same = refl
-told_no More = refl
+told_no Equal = refl
+told_no Greater = refl
 
 -- an epoch is not smaller than itself
-pub smaller_or_lem : (t : List Entry) (i j : ℕ) → smaller_or false t i j ≡ is_less (compare_epochs t i j)
+pub smaller_or_lem : (t : List Entry) (i j : ℕ) → smaller_or false t i j ≡ is_lt (compare_epochs t i j)
 smaller_or_lem t i j = told_no (compare_epochs t i j)
 
 pub tied : (tie : Bool) (t : List Entry) (i j : ℕ) → i ≡ j → smaller_or tie t i j ≡ tie
@@ -64,7 +64,7 @@ module _ (tie : Bool) (t : List Entry) (h : Table t) (i j : ℕ) where
   module _ (a : i < length t) (b : j < length t) where
     pub by_keys :
         1 ≤ i → 1 ≤ j → (i ≡ j → ⊥) → parent_of t i ≡ parent_of t j →
-        smaller_or tie t i j ≡ is_less (compare_keys (entry_at t i) (entry_at t j))
+        smaller_or tie t i j ≡ is_lt (compare_keys (entry_at t i) (entry_at t j))
     by_keys k l f e =
         ap (told tie) (siblings t h i j k l e)
         ∙ told_decided tie (compare_keys (entry_at t i) (entry_at t j)) (λ s. f (key_index t h i j a b s))

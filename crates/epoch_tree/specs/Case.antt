@@ -1,6 +1,6 @@
 -- 01's case of epochs ("Cases"), and the story of 02's P1.
 use Rattle.std.specs.Prelude.{ℕ, ◌≤◌, ◌≡◌, List, [], ◌∷◌, true}
-use Rattle.names.specs.declared.Order.TheVariants.{Less}
+use Rattle.std.specs.declared.cmp.Ordering.TheVariants.{Less}
 use Rattle.epoch_tree.specs.declared.Step.TheVariants.{Stay, Up, Down}
 use Rattle.epoch_tree.specs.Tables.{Entry, zero_entry, is_table}
 use Rattle.epoch_tree.specs.Tree.{path, Smaller, target, next_step, edges}

@@ -1,19 +1,19 @@
 -- What the number of names in a rename's log decides: 02, P1. "paths compare entry by entry by that number first, then node, then
 -- sequence", and "01's epoch case stands with equal counts".
 use Rattle.std.specs.Prelude.{ℕ, ◌<◌, ◌≤◌, ◌≡◌, List, [], ◌∷◌, ◌++◌, ◌⊎◌, true, false, length}
-use Rattle.names.specs.declared.Order.{Order}
-use Rattle.names.specs.declared.Order.TheVariants.{Less, Same, More}
-use Rattle.names.specs.Ordering.{then}
+use Rattle.std.specs.declared.cmp.Ordering.{Ordering}
+use Rattle.std.specs.declared.cmp.Ordering.TheVariants.{Less, Equal, Greater}
+use Rattle.std.specs.Ordering.{ordering_then}
 use Rattle.numbers.specs.Bytes.{Bytes, at16}
 use Rattle.epoch_tree.specs.Tables.{Entry, entry_at, is_table, keeps_table}
 use Rattle.epoch_tree.specs.Tree.{parent_of, path, compare_pairs, compare_keys, compare_paths, compare_epochs, Smaller}
 
 -- 01's own comparison, to hold the other against: "Paths compare entry by entry by node then sequence; a proper prefix is smaller"
-abbrev pub compare_by_pairs : List Entry → List Entry → Order
-compare_by_pairs [] [] = Same
+abbrev pub compare_by_pairs : List Entry → List Entry → Ordering
+compare_by_pairs [] [] = Equal
 compare_by_pairs [] (f ∷ q) = Less
-compare_by_pairs (e ∷ p) [] = More
-compare_by_pairs (e ∷ p) (f ∷ q) = then (compare_pairs e f) (compare_by_pairs p q)
+compare_by_pairs (e ∷ p) [] = Greater
+compare_by_pairs (e ∷ p) (f ∷ q) = ordering_then (compare_pairs e f) (compare_by_pairs p q)
 
 -- "with equal counts": every rename's log has n names
 abbrev pub EqualCounts : List Entry → ℕ → Type 0

@@ -2,7 +2,7 @@
 -- these, or what is built on them. An epoch is the index of its entry, so it is one of the table's where it is below the number of entries.
 use Rattle.std.specs.Prelude.{ℕ, ◌-◌, ◌<◌, ◌≤◌, ◌≡◌, ◌⊎◌, true, false, length}
 use mathlib.Core.List.{List, [], ◌∷◌, ◌++◌, flatten}
-use Rattle.names.specs.declared.Order.TheVariants.{Same}
+use Rattle.std.specs.declared.cmp.Ordering.TheVariants.{Equal}
 use Rattle.numbers.specs.Bytes.{Bytes, Octets}
 use Rattle.epoch_tree.specs.declared.Step.{Step}
 use Rattle.epoch_tree.specs.declared.Step.TheVariants.{Stay, Up, Down}
@@ -116,7 +116,7 @@ pub record OfTable (t : List Entry) : Type 0 where
 
 -- each path of t is one of u, entry by entry of one count, node and sequence: the two may list their epochs in different orders
 abbrev pub Covered : List Entry → List Entry → Type 0
-Covered t u = (i : ℕ) → i < length t → (j : ℕ) × (j < length u) × (compare_paths (path t i) (path u j) ≡ Same)
+Covered t u = (i : ℕ) → i < length t → (j : ℕ) × (j < length u) × (compare_paths (path t i) (path u j) ≡ Equal)
 
 -- t and u list the same epochs
 abbrev pub SameEpochs : List Entry → List Entry → Type 0
@@ -124,7 +124,7 @@ SameEpochs t u = Covered t u × Covered u t
 
 -- epoch i of t and epoch j of u are one, by their paths and so by count, node and sequence
 pub record SameEpoch (t : List Entry) (i : ℕ) (u : List Entry) (j : ℕ) : Type 0 where
-  pub paths : compare_paths (path t i) (path u j) ≡ Same
+  pub paths : compare_paths (path t i) (path u j) ≡ Equal
   pub node : (entry_at t i).node ≡ (entry_at u j).node
   pub sequence : (entry_at t i).sequence ≡ (entry_at u j).sequence
   pub count : (entry_at t i).count ≡ (entry_at u j).count
@@ -138,7 +138,7 @@ pub record Laws : Type 0 where
   -- paths that agree still do when each goes on to an entry of one key
   pub agree_on :
       (p q : List Entry) (e f : Entry) →
-      compare_paths p q ≡ Same → compare_keys e f ≡ Same → compare_paths (p ++ (e ∷ [])) (q ++ (f ∷ [])) ≡ Same
+      compare_paths p q ≡ Equal → compare_keys e f ≡ Equal → compare_paths (p ++ (e ∷ [])) (q ++ (f ∷ [])) ≡ Equal
   -- units that list the same epochs, in whatever order they came, have the same target
   pub same_target :
       (t u : List Entry) → is_table t ≡ true → is_table u ≡ true →
@@ -150,4 +150,4 @@ pub record Laws : Type 0 where
   -- and they still list the same epochs when each gets one of the same key, under what is one epoch in both
   pub same_added :
       (t u : List Entry) → is_table t ≡ true → is_table u ≡ true → SameEpochs t u → (e f : Entry) → Addable t e → Addable u f →
-      compare_keys e f ≡ Same → SameEpoch t e.parent u f.parent → SameEpochs (added t e) (added u f)
+      compare_keys e f ≡ Equal → SameEpoch t e.parent u f.parent → SameEpochs (added t e) (added u f)

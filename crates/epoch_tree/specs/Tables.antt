@@ -4,7 +4,8 @@
 -- "Entries become 10 bytes, the count after the parent index; entry 0 stays all zero."
 use Rattle.std.specs.Prelude.{ℕ, suc, ◌+◌, ◌%◌, List, [], ◌∷◌, ◌++◌, map, Bool, true, false, not, ◌&&◌, ◌||◌, length, take, drop, get_or, eqb, leb, ltb}
 use Rattle.names.specs.Names.{within}
-use Rattle.numbers.specs.Lists.{first_parts, equal_parts}
+use Rattle.numbers.specs.Lists.{equal_parts}
+use Rattle.std.specs.Simd.{first_chunks}
 use Rattle.numbers.specs.Bytes.{Bytes, at16, at32, bytes16, bytes32}
 use Rattle.pages.specs.Pages.{max_slots}
 
@@ -31,7 +32,7 @@ entry_in s p = record { node = at16 s p; sequence = at32 s (p + 2); parent = at1
 
 -- the first n entries' bytes
 abbrev pub entry_parts : ℕ → Bytes → List Bytes
-entry_parts n s = first_parts entry_size n s
+entry_parts n s = first_chunks entry_size n s
 
 abbrev pub entry_parts_of : Bytes → List Bytes
 entry_parts_of s = equal_parts entry_size s

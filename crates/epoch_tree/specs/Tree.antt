@@ -1,8 +1,9 @@
 -- The epoch tree: document 01, "Epoch tree", with 02's P1, and 001, section 5.2. An epoch is the index of its entry in the table t.
 use Rattle.std.specs.Prelude.{ℕ, zero, suc, ◌+◌, ◌-◌, ◌≡◌, List, [], ◌∷◌, ◌++◌, map, cond, length, eqb}
-use Rattle.names.specs.declared.Order.{Order}
-use Rattle.names.specs.declared.Order.TheVariants.{Less, Same, More}
-use Rattle.names.specs.Ordering.{compare_ℕ, then, is_less}
+use Rattle.std.specs.declared.cmp.Ordering.{Ordering}
+use Rattle.std.specs.declared.cmp.Ordering.TheVariants.{Less, Equal, Greater}
+use Rattle.names.specs.Ordering.{compare_ℕ}
+use Rattle.std.specs.Ordering.{ordering_then, is_lt}
 use Rattle.epoch_tree.specs.declared.Step.{Step}
 use Rattle.epoch_tree.specs.declared.Step.TheVariants.{Stay, Up, Down}
 use Rattle.epoch_tree.specs.Tables.{Entry, entry_at}
@@ -29,23 +30,23 @@ path t i = map (entry_at t) (route t i)
 -- ── the comparison ──
 
 -- "by node then sequence"
-abbrev pub compare_pairs : Entry → Entry → Order
-compare_pairs e f = then (compare_ℕ e.node f.node) (compare_ℕ e.sequence f.sequence)
+abbrev pub compare_pairs : Entry → Entry → Ordering
+compare_pairs e f = ordering_then (compare_ℕ e.node f.node) (compare_ℕ e.sequence f.sequence)
 
 -- 02, P1: "by that number first, then node, then sequence", the number of names in the rename's log. The key of the comparison stands
 -- here, and nowhere else.
-abbrev pub compare_keys : Entry → Entry → Order
-compare_keys e f = then (compare_ℕ e.count f.count) (compare_pairs e f)
+abbrev pub compare_keys : Entry → Entry → Ordering
+compare_keys e f = ordering_then (compare_ℕ e.count f.count) (compare_pairs e f)
 
 -- "Paths compare entry by entry ..; a proper prefix is smaller (001, section 5.2)."
-abbrev pub compare_paths : List Entry → List Entry → Order
-compare_paths [] [] = Same
+abbrev pub compare_paths : List Entry → List Entry → Ordering
+compare_paths [] [] = Equal
 compare_paths [] (f ∷ q) = Less
-compare_paths (e ∷ p) [] = More
-compare_paths (e ∷ p) (f ∷ q) = then (compare_keys e f) (compare_paths p q)
+compare_paths (e ∷ p) [] = Greater
+compare_paths (e ∷ p) (f ∷ q) = ordering_then (compare_keys e f) (compare_paths p q)
 
 -- epochs compare as their paths do
-abbrev pub compare_epochs : List Entry → ℕ → ℕ → Order
+abbrev pub compare_epochs : List Entry → ℕ → ℕ → Ordering
 compare_epochs t i j = compare_paths (path t i) (path t j)
 
 abbrev pub Smaller : List Entry → ℕ → ℕ → Type 0
@@ -55,7 +56,7 @@ Smaller t i j = compare_epochs t i j ≡ Less
 
 -- the one of the two with the greater path
 abbrev pub greater : List Entry → ℕ → ℕ → ℕ
-greater t i j = cond (is_less (compare_epochs t i j)) j i
+greater t i j = cond (is_lt (compare_epochs t i j)) j i
 
 -- the greatest of the indices 0..n
 abbrev pub greatest_to : List Entry → ℕ → ℕ

@@ -12,7 +12,7 @@ use lib.ListN.{length, length-map, length-append}
 use Rattle.names.specs.declared.Author.{Author}
 use Rattle.numbers.specs.Bytes.{Bytes, Octets}
 use Rattle.answers.specs.Answers.{Outcome, refuse, accept, write}
-use Rattle.answers.specs.declared.Answer.TheVariants.{Accepted}
+use Rattle.std.specs.declared.result.Result.TheVariants.{Ok}
 use Rattle.answers.specs.declared.Refusal.{Refusal}
 use Rattle.answers.specs.declared.Refusal.TheVariants.{NoAuthor, Short, BadTable, NoEpoch, Listed, TableFull}
 use Rattle.answers.proofs.Outcomes.{writes_short, writes, write_accepted}
@@ -89,7 +89,7 @@ module _ (s : Bytes) (parent : ℕ) (author : Author) (count room : ℕ) where
               pub done :
                   Octets s → length s + entry_size ≤ room →
                   add_outcome s parent author count room
-                  ≡ record { answer = Accepted (length s / entry_size + 1); bytes = s ++ entry_bytes (entry_by author parent count) }
+                  ≡ record { answer = Ok (length s / entry_size + 1); bytes = s ++ entry_bytes (entry_by author parent count) }
               done k r =
                   let l = added_length (entries_of s) (checked s h) (entry_by author parent count) in
                   let n = length_entries s in
@@ -108,7 +108,7 @@ pub record Adds (s : Bytes) (e : Entry) (x : Outcome) : Type 0 where
   pub wrote : x ≡ accept (entry_pieces (added (entries_of s) e))
 
 pub adds :
-    (s : Bytes) (parent : ℕ) (author : Author) (count room n : ℕ) → (add_outcome s parent author count room).answer ≡ Accepted n →
+    (s : Bytes) (parent : ℕ) (author : Author) (count room n : ℕ) → (add_outcome s parent author count room).answer ≡ Ok n →
     Adds s (entry_by author parent count) (add_outcome s parent author count room)
 unfolding add_outcome
 adds s parent author count room n h =

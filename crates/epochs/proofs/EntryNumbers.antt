@@ -11,7 +11,8 @@ use lib.Dec.{eqb, ltb}
 use lib.ListN.{length}
 use Rattle.numbers.specs.Bytes.{Bytes, Octets, at16, at32, at64}
 use Rattle.numbers.proofs.ReadNumbers.{fits16, fits32}
-use Rattle.names.specs.Ordering.{by_tests, compare_ℕ, then, is_less}
+use Rattle.names.specs.Ordering.{by_tests, compare_ℕ}
+use Rattle.std.specs.Ordering.{ordering_then, is_lt}
 use Rattle.names.proofs.Laws.{ℕ_cases}
 use Rattle.names.proofs.Digits.{digits}
 use Rattle.epoch_tree.specs.Tables.{Entry, entry_size, entry_at, entry_in, entries_of, same_pair}
@@ -96,12 +97,12 @@ keys_numbers : (e f : Entry) → Fits e → Fits f → compare_ℕ (key_number e
 keys_numbers e f a b =
     let pairs = digits 4294967296 e.node e.sequence f.node f.sequence a.sequence b.sequence in
     digits 281474976710656 e.count (pair_number e) f.count (pair_number f) (pair_below e a) (pair_below f b)
-    ∙ ap (then (compare_ℕ e.count f.count)) pairs
+    ∙ ap (ordering_then (compare_ℕ e.count f.count)) pairs
 
-first_test : (a b : Bool) → a ≡ is_less (by_tests a b)
+first_test : (a b : Bool) → a ≡ is_lt (by_tests a b)
 first_test true b = refl
 first_test false true = refl
 first_test false false = refl
 
-pub key_less : (e f : Entry) → Fits e → Fits f → ltb (key_number e) (key_number f) ≡ is_less (compare_keys e f)
-key_less e f a b = first_test (ltb (key_number e) (key_number f)) (ltb (key_number f) (key_number e)) ∙ ap is_less (keys_numbers e f a b)
+pub key_less : (e f : Entry) → Fits e → Fits f → ltb (key_number e) (key_number f) ≡ is_lt (compare_keys e f)
+key_less e f a b = first_test (ltb (key_number e) (key_number f)) (ltb (key_number f) (key_number e)) ∙ ap is_lt (keys_numbers e f a b)

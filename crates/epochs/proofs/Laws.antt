@@ -11,7 +11,7 @@ use Rattle.numbers.specs.Bytes.{Bytes}
 use Rattle.answers.specs.Answers.{Outcome, ◌else◌, count_of}
 use Rattle.answers.specs.declared.Refusal.{Refusal}
 use Rattle.answers.specs.declared.Refusal.TheVariants.{BadTable}
-use Rattle.answers.specs.declared.Answer.TheVariants.{Accepted, Refused}
+use Rattle.std.specs.declared.result.Result.TheVariants.{Ok, Err}
 use Rattle.answers.proofs.Outcomes.{no_answer}
 use Rattle.answers.proofs.Refusals.{reached}
 use Rattle.epoch_tree.specs.declared.Step.{Step}
@@ -28,27 +28,27 @@ use Rattle.epochs.proofs.AddOutcomes as outcomes
 of_table : (s : Bytes) → keeps_table s ≡ true → OfTable (entries_of s)
 of_table s h = (tables.laws).of_table (entries_of s) (entries_table s h)
 
-checks : (s : Bytes) (n : ℕ) → check_table s ≡ Accepted n → OfTable (entries_of s) × (length (entries_of s) ≡ n)
+checks : (s : Bytes) (n : ℕ) → check_table s ≡ Ok n → OfTable (entries_of s) × (length (entries_of s) ≡ n)
 unfolding check_table
 checks s n h =
     let tests = keeps_table s else BadTable ∷ [] in
-    let k = reached (λ x. x ≡ (Accepted n)) Refused (Accepted (length (entries_of s))) (λ r e. no_answer r n e) tests h in
+    let k = reached (λ x. x ≡ (Ok n)) Err (Ok (length (entries_of s))) (λ r e. no_answer r n e) tests h in
     (of_table s k.0.0, ap count_of k.1)
 
-no_step : (step : Step) (r : Refusal) → next.Refused r ≡ next.Take step → ⊥
+no_step : (step : Step) (r : Refusal) → next.Err r ≡ next.Take step → ⊥
 no_step step r e = let z : ◌≡◌ {A = ℕ} 0 1 = cc in omega arith
 
 steps : (s : Bytes) (current : ℕ) (step : Step) → next_step_outcome s current ≡ next.Take step → Stepped s current step
 unfolding next_step_outcome
 steps s current step h =
-    let k = reached (λ x. x ≡ (next.Take step)) next.Refused (next.Take (next_step (entries_of s) current)) (no_step step) (epoch_tests s current) h in
+    let k = reached (λ x. x ≡ (next.Take step)) next.Err (next.Take (next_step (entries_of s) current)) (no_step step) (epoch_tests s current) h in
     let same : next_step (entries_of s) current ≡ step = let e = k.1 in cc in
     let table = of_table s k.0.0 in
     let inside = ltb-true current (length (entries_of s)) k.0.1.0 in
     record { is_table_lem = table; in_table = inside; one_edge = subst (OneEdge (entries_of s) current) same (table.steps current inside) }
 
 adds :
-    (s : Bytes) (parent : ℕ) (author : Author) (count room n : ℕ) → (add_outcome s parent author count room).answer ≡ Accepted n →
+    (s : Bytes) (parent : ℕ) (author : Author) (count room n : ℕ) → (add_outcome s parent author count room).answer ≡ Ok n →
     Added s parent author count n (add_outcome s parent author count room).bytes
 adds s parent author count room n h =
     let a = outcomes.adds s parent author count room n h in

@@ -3,8 +3,8 @@ use Rattle.std.specs.Prelude.{ℕ, List, [], ◌∷◌, ◌++◌, not, length, l
 use Rattle.names.specs.declared.Author.{Author}
 use Rattle.numbers.specs.Bytes.{Bytes}
 use Rattle.answers.specs.declared.Refusal.TheVariants.{NoAuthor, BadTable, NoEpoch, Listed, TableFull}
-use Rattle.answers.specs.declared.Answer.{Answer}
-use Rattle.answers.specs.declared.Answer.TheVariants.{Accepted, Refused}
+use Rattle.answers.specs.Answers.{Answer}
+use Rattle.std.specs.declared.result.Result.TheVariants.{Ok, Err}
 use Rattle.answers.specs.Answers.{Test, ◌else◌, in_order, check, Outcome, outcome}
 use Rattle.epoch_tree.specs.declared.Step.{Step}
 use Rattle.epoch_tree.specs.declared.Step.TheVariants.{Stay, Up, Down}
@@ -33,16 +33,16 @@ step_index (Down i) = i
 -- "Each refusal reports .. no .. index or step": what comes back has zeros for them
 abbrev pub number_in : Next → ℕ
 number_in (next.Take s) = step_number s
-number_in (next.Refused r) = 0
+number_in (next.Err r) = 0
 
 abbrev pub index_in : Next → ℕ
 index_in (next.Take s) = step_index s
-index_in (next.Refused r) = 0
+index_in (next.Err r) = 0
 
 -- "accepted; with the count .. (0 for a new name or a step)"
 abbrev pub answer_of : Next → Answer
-answer_of (next.Take s) = Accepted 0
-answer_of (next.Refused r) = Refused r
+answer_of (next.Take s) = Ok 0
+answer_of (next.Err r) = Err r
 
 -- What both calls below ask first: 13, and 14, "current or parent index not in the table".
 abbrev pub epoch_tests : Bytes → ℕ → List Test
@@ -50,7 +50,7 @@ epoch_tests s i = keeps_table s else BadTable ∷ ltb i (length (entries_of s)) 
 
 -- "next step 13, 14"
 unfoldable pub next_step_outcome : Bytes → ℕ → Next
-next_step_outcome s current = in_order (epoch_tests s current) next.Refused (next.Take (next_step (entries_of s) current))
+next_step_outcome s current = in_order (epoch_tests s current) next.Err (next.Take (next_step (entries_of s) current))
 
 -- ── adding ──
 

@@ -5,8 +5,8 @@
 #![tactic(auto)]
 
 ghost use Rattle.std.specs.Prelude.{◌≡◌, true, cond, not, ◌+◌, ◌/◌, ◌≤◌, ◌<◌, length, take, drop, get_or};
-ghost use Rattle.names.specs.declared.Order.TheVariants.{Less, More};
-ghost use Rattle.names.specs.Ordering.{then, is_less};
+ghost use Rattle.std.specs.declared.cmp.Ordering.TheVariants.{Less, Greater};
+ghost use Rattle.std.specs.Ordering.{ordering_then, is_lt};
 ghost use Rattle.numbers.specs.Bytes.{put};
 ghost use Rattle.answers.specs.Answers.{leaves};
 ghost use Rattle.epoch_tree.specs.Tables.{entry_size, entries_of, entry_at, entry_bytes, is_first, is_count, same_pair, listed, keeps_entry, keeps_from, keeps_table};
@@ -232,9 +232,9 @@ pub fn check_table(table: &[u8]) -> Answer
     ensures { result ≡ check_table table.now }
 {
     if !table_ok(table) {
-        return Answer::Refused(Refusal::BadTable);
+        return Err(Refusal::BadTable);
     }
-    Answer::Accepted(table.len() / ENTRY)
+    Ok(table.len() / ENTRY)
 }
 
 // ── the comparison ──
@@ -251,7 +251,7 @@ fn key_of(table: &[u8], k: usize) -> u64
 // The key of entry i is below that of entry j.
 fn is_below(table: &[u8], i: usize, j: usize) -> bool
     requires { (i < length table.now / entry_size) × (j < length table.now / entry_size) }
-    ensures { result ≡ is_less (compare_keys (entry_at (entries_of table.now) i) (entry_at (entries_of table.now) j)) }
+    ensures { result ≡ is_lt (compare_keys (entry_at (entries_of table.now) i) (entry_at (entries_of table.now) j)) }
 {
     key_of(table, i) < key_of(table, j)
 }
@@ -279,7 +279,7 @@ fn parent_in(tree: &[u8; TABLE], size: usize, k: usize) -> usize
 // The key of entry i is below that of entry j, in the array.
 fn key_below(tree: &[u8; TABLE], size: usize, i: usize, j: usize) -> bool
     requires { (i < length (take size tree.now) / entry_size) × (j < length (take size tree.now) / entry_size) }
-    ensures { result ≡ is_less (compare_keys (entry_at (entries_of (take size tree.now)) i) (entry_at (entries_of (take size tree.now)) j)) }
+    ensures { result ≡ is_lt (compare_keys (entry_at (entries_of (take size tree.now)) i) (entry_at (entries_of (take size tree.now)) j)) }
 {
     is_below(tree, i, j)
 }
@@ -290,7 +290,7 @@ fn key_below(tree: &[u8; TABLE], size: usize, i: usize, j: usize) -> bool
 // greater.
 fn is_smaller(tree: &[u8; TABLE], size: usize, i: usize, j: usize, tie: bool) -> bool
     requires { (keeps_table (take size tree.now) ≡ true) × (i < length (take size tree.now) / entry_size) × (j < length (take size tree.now) / entry_size) }
-    ensures { result ≡ is_less (then (compare_epochs (entries_of (take size tree.now)) i j) (cond tie Less More)) }
+    ensures { result ≡ is_lt (ordering_then (compare_epochs (entries_of (take size tree.now)) i j) (cond tie Less Greater)) }
 {
     if i == j {
         return tie;
@@ -396,8 +396,8 @@ pub fn answer(n: Next) -> Answer
     ensures { result ≡ answer_of n }
 {
     match n {
-        Next::Take(_) => Answer::Accepted(0),
-        Next::Refused(r) => Answer::Refused(r),
+        Next::Take(_) => Ok(0),
+        Next::Refused(r) => Err(r),
     }
 }
 
@@ -482,28 +482,28 @@ pub fn add(table: &[u8], parent: usize, author: Author, count: u16, out: &mut [u
     ensures out_after { out.new ≡ leaves (add_outcome table.now parent author count (length out.old)) out.old }
 {
     if !table_ok(table) {
-        return Answer::Refused(Refusal::BadTable);
+        return Err(Refusal::BadTable);
     }
     let n = table.len() / ENTRY;
     if n <= parent {
-        return Answer::Refused(Refusal::NoEpoch);
+        return Err(Refusal::NoEpoch);
     }
     if author.node < 1 {
-        return Answer::Refused(Refusal::NoAuthor);
+        return Err(Refusal::NoAuthor);
     }
     if !count_ok(count) {
-        return Answer::Refused(Refusal::BadTable);
+        return Err(Refusal::BadTable);
     }
     if is_listed(table, n, author) {
-        return Answer::Refused(Refusal::Listed);
+        return Err(Refusal::Listed);
     }
     if ENTRIES <= n {
-        return Answer::Refused(Refusal::TableFull);
+        return Err(Refusal::TableFull);
     }
     if out.len() < table.len() + ENTRY {
-        return Answer::Refused(Refusal::Short);
+        return Err(Refusal::Short);
     }
     numbers::copy(out, 0, table);
     write_entry(out, table.len(), author, parent, count);
-    Answer::Accepted(n + 1)
+    Ok(n + 1)
 }

@@ -16,7 +16,7 @@ use Rattle.numbers.proofs.Put.{put_more, put_length, put_none}
 use Rattle.slots.specs.Tuples.{tuple_size, row_at}
 use Rattle.slots.proofs.CopiedTuples.{put_over}
 use Rattle.answers.specs.declared.Refusal.TheVariants.{Short}
-use Rattle.answers.specs.declared.Answer.TheVariants.{Accepted, Refused}
+use Rattle.std.specs.declared.result.Result.TheVariants.{Ok, Err}
 use Rattle.answers.specs.Answers.{write, leaves}
 use Rattle.answers.proofs.Outcomes.{refused, accepted, writes, writes_short}
 use Rattle.fields.specs.Fields.{single}
@@ -124,11 +124,11 @@ module _ (s : Bytes) (c : Change) (v : Fits s c) where
 -- ── what a call answers ──
 
 module _ (w o : Bytes) where
-  pub too_short : length o < length w → (Refused Short ≡ (write (map single w) (length o)).answer) × (o ≡ leaves (write (map single w) (length o)) o)
+  pub too_short : length o < length w → (Err Short ≡ (write (map single w) (length o)).answer) × (o ≡ leaves (write (map single w) (length o)) o)
   too_short h = refused (write (map single w) (length o)) Short o (writes_short (map single w) (length o) (omega (arith, ap length (flat_single w))))
 
   pub is_written : {n : ℕ} (e : Bytes) → n ≡ length w → length w ≤ length o → e ≡ put o 0 w
-      → (Accepted n ≡ (write (map single w) (length o)).answer) × (e ≡ leaves (write (map single w) (length o)) o)
+      → (Ok n ≡ (write (map single w) (length o)).answer) × (e ≡ leaves (write (map single w) (length o)) o)
   is_written {n} e q h f =
       let z : length (map single w) ≡ n = omega (arith, length-map w single) in
       accepted (write (map single w) (length o)) n w o e (writes (map single w) (length o) n w z (flat_single w) h) f

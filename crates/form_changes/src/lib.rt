@@ -118,12 +118,12 @@ pub fn put_in(form: &[u8], slot: &[u8], head: Head, c: Change, out: &mut [u8]) -
 {
     let size = changed_size(form, c) + head_size(head) + LINE;
     if out.len() < size {
-        return Answer::Refused(Refusal::Short);
+        return Err(Refusal::Short);
     }
     write_front(form, c, out);
     let p = write_given(out, c.from, slot, head);
     write_back(form, c, out, p);
-    Answer::Accepted(size)
+    Ok(size)
 }
 
 // 8; else the form as changed, with nothing between.
@@ -134,9 +134,9 @@ pub fn cut_out(form: &[u8], c: Change, out: &mut [u8]) -> Answer
 {
     let size = changed_size(form, c);
     if out.len() < size {
-        return Answer::Refused(Refusal::Short);
+        return Err(Refusal::Short);
     }
     write_front(form, c, out);
     write_back(form, c, out, c.from);
-    Answer::Accepted(size)
+    Ok(size)
 }

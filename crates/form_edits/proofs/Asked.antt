@@ -8,7 +8,8 @@ use native.Mathlib.Decide.{dec_le}
 use borrow.Author.Tests.{ltb-true, lt-ltb, le-ltb, eq-eqb, ne_eqb}
 use lib.Dec.{eqb, ltb}
 use lib.ListN.{length, drop, length-append}
-use Rattle.names.specs.Ordering.{Row, compare_rows, is_same}
+use Rattle.names.specs.Ordering.{Row, compare_rows}
+use Rattle.std.specs.Ordering.{is_eq}
 use Rattle.names.specs.Names.{is_name}
 use Rattle.numbers.specs.Bytes.{Bytes, Octets}
 use Rattle.slots.specs.declared.Span.{Span}
@@ -183,7 +184,7 @@ goes_some s b n t = elim (dec_le 1 b.count) [
 ]
   where
     y : Bool
-    y = is_same (compare_rows (onward b.count (row_at s b.name)) (row_at s n.name))
+    y = is_eq (compare_rows (onward b.count (row_at s b.name)) (row_at s n.name))
 
     either : (c : Bool) → cond c false false ≡ false
     either true = refl

@@ -11,13 +11,14 @@ use borrow.Author.Tests.{lt-ltb, le-ltb, ltb-true, ne_eqb}
 use lib.Dec.{eqb, ltb}
 use lib.ListN.{length, take, drop, length-append}
 use lib.Seq.{take_at, drop_at}
-use Rattle.names.specs.Ordering.{Row, compare_rows, is_same, Rising}
-use Rattle.names.specs.declared.Order.{Order}
-use Rattle.names.specs.declared.Order.TheVariants.{Less, Same, More}
+use Rattle.names.specs.Ordering.{Row, compare_rows, Rising}
+use Rattle.std.specs.Ordering.{is_eq}
+use Rattle.std.specs.declared.cmp.Ordering.{Ordering}
+use Rattle.std.specs.declared.cmp.Ordering.TheVariants.{Less, Equal, Greater}
 use Rattle.names.specs.Names.{is_name}
 use Rattle.names.proofs.Laws.{same_row}
 use Rattle.numbers.specs.Bytes.{Bytes, Octets, at32}
-use Rattle.numbers.specs.Lists.{every}
+use Rattle.std.specs.List.{list_all}
 use Rattle.numbers.proofs.Bools.{yes_no, and_0, and_1}
 use Rattle.numbers.proofs.Every.{every_append}
 use Rattle.slots.specs.declared.Span.{Span}
@@ -63,7 +64,7 @@ pub data Next (s : Bytes) (fs hs : List Group) (n : Block) : Type 0 where
   last : hs ≡ [] → n ≡ no_block → Next s fs hs n
   next : (h : Group) (ks : List Group) → hs ≡ h ∷ ks → Laid s fs h ks n → Next s fs hs n
 
-module _ (s : Bytes) (k : Octets s) (fs hs : List Group) (e : s ≡ form_bytes (fs ++ hs)) (v : every is_group hs ≡ true) where
+module _ (s : Bytes) (k : Octets s) (fs hs : List Group) (e : s ≡ form_bytes (fs ++ hs)) (v : list_all is_group hs ≡ true) where
   abbrev p : ℕ
   p = length (form_bytes fs)
 
@@ -79,7 +80,7 @@ module _ (s : Bytes) (k : Octets s) (fs hs : List Group) (e : s ≡ form_bytes (
           last q (ap (λ (b : Bool). cond b (block_at s p) no_block) (le-ltb p (length s) (omega (arith, long))))
       go (h ∷ ks) q =
           let f : s ≡ form_bytes (fs ++ (h ∷ ks)) = e ∙ ap (λ (l : List Group). form_bytes (fs ++ l)) q in
-          let g : is_group h ≡ true = and_0 (is_group h) (every is_group ks) (ap (every is_group) (sym q) ∙ v) in
+          let g : is_group h ≡ true = and_0 (is_group h) (list_all is_group ks) (ap (list_all is_group) (sym q) ∙ v) in
           let d = laid s k fs h ks f g in
           let w : p < length s = let m = d.stood.1 in let c = d.start in let n = d.stood.0 in let o = d.deep in omega arith in
           next h ks q (subst (Laid s fs h ks) (sym (ap (λ (b : Bool). cond b (block_at s p) no_block) (lt-ltb p (length s) w))) d)
@@ -92,7 +93,7 @@ module _ (s : Bytes) (k : Octets s) (fs hs : List Group) (e : s ≡ form_bytes (
       go [] q = absurd (let z : length (form_bytes hs) ≡ 0 = ap (λ (l : List Group). length (form_bytes l)) q ∙ ap length form_none in let w = ltb-true p (length s) l in omega (arith, long))
       go (h ∷ ks) q =
           let f : s ≡ form_bytes (fs ++ (h ∷ ks)) = e ∙ ap (λ (l : List Group). form_bytes (fs ++ l)) q in
-          let g : is_group h ≡ true = and_0 (is_group h) (every is_group ks) (ap (every is_group) (sym q) ∙ v) in
+          let g : is_group h ≡ true = and_0 (is_group h) (list_all is_group ks) (ap (list_all is_group) (sym q) ∙ v) in
           (place_within s k fs h ks f g, stands_there s k fs h ks f g)
 
   -- the form up to there, and from there on
@@ -109,10 +110,10 @@ module _ (s : Bytes) (k : Octets s) (fs hs : List Group) (e : s ≡ form_bytes (
 is_same_lem : (a b : Row) → same a b ≡ true → a ≡ b
 is_same_lem a b e = same_row a b (go (compare_rows a b) e)
   where
-    go : (o : Order) → is_same o ≡ true → o ≡ Same
+    go : (o : Ordering) → is_eq o ≡ true → o ≡ Equal
     go Less e = yes_no e refl
-    go Same e = refl
-    go More e = yes_no e refl
+    go Equal e = refl
+    go Greater e = yes_no e refl
 
 -- ── a slot before groups ──
 
@@ -141,7 +142,7 @@ module _ (s slot : Bytes) (k : Octets s) (so : Octets slot) (name : Span) (e : E
   v : Held s
   v = held s e.tests
 
-  groups : every is_group (groups_in s) ≡ true
+  groups : list_all is_group (groups_in s) ≡ true
   groups = (form_kept s v.form).good
 
   pub bytes : s ≡ form_bytes (groups_in s)
@@ -169,24 +170,24 @@ module _ (s slot : Bytes) (k : Octets s) (so : Octets slot) (name : Span) (e : E
     pub form_is : s ≡ form_bytes (fs ++ (g ∷ hs))
     form_is = bytes ∙ ap form_bytes q
 
-    all_groups : every is_group fs && every is_group (g ∷ hs) ≡ true
-    all_groups = sym (every_append is_group fs (g ∷ hs)) ∙ ap (every is_group) (sym q) ∙ groups
+    all_groups : list_all is_group fs && list_all is_group (g ∷ hs) ≡ true
+    all_groups = sym (every_append is_group fs (g ∷ hs)) ∙ ap (list_all is_group) (sym q) ∙ groups
 
-    groups_from : every is_group (g ∷ hs) ≡ true
-    groups_from = and_1 (every is_group fs) (every is_group (g ∷ hs)) all_groups
+    groups_from : list_all is_group (g ∷ hs) ≡ true
+    groups_from = and_1 (list_all is_group fs) (list_all is_group (g ∷ hs)) all_groups
 
     pub is_group_lem : is_group g ≡ true
-    is_group_lem = and_0 (is_group g) (every is_group hs) groups_from
+    is_group_lem = and_0 (is_group g) (list_all is_group hs) groups_from
 
-    groups_after : every is_group hs ≡ true
-    groups_after = and_1 (is_group g) (every is_group hs) groups_from
+    groups_after : list_all is_group hs ≡ true
+    groups_after = and_1 (is_group g) (list_all is_group hs) groups_from
 
     here : Laid s fs g hs (block_at s (length (form_bytes fs)))
     here = laid s k fs g hs form_is is_group_lem
 
     stood : Stood fs g hs
     stood = record {
-      have = ap (every _) (sym q) ∙ have_slots (groups_in s) groups;
+      have = ap (list_all _) (sym q) ∙ have_slots (groups_in s) groups;
       long = ap longest (sym q) ∙ (form_kept s v.form).long;
       order = subst (λ (l : List Group). Rising (map name_in (ungrouped l))) q v.order;
     }
@@ -274,7 +275,7 @@ module _ (s slot : Bytes) (k : Octets s) (so : Octets slot) (name : Span) (e : E
   few_after fs hs q h ks z = few fs h ks (q ∙ ap (λ (l : List Group). fs ++ l) z)
 
   -- it does not go on with the group before
-  module _ (fs hs : List Group) (q : groups_in s ≡ fs ++ hs) (v' : every is_group hs ≡ true) (absent : has x (map name_in (slots_of_form s)) ≡ false) (is : grouped (placed (slot_of slot) (slots_of_form s)) ≡ fs ++ joined (slot_of slot) hs) where
+  module _ (fs hs : List Group) (q : groups_in s ≡ fs ++ hs) (v' : list_all is_group hs ≡ true) (absent : has x (map name_in (slots_of_form s)) ≡ false) (is : grouped (placed (slot_of slot) (slots_of_form s)) ≡ fs ++ joined (slot_of slot) hs) where
     abbrev end : ℕ
     end = length (form_bytes fs)
 
@@ -363,7 +364,7 @@ module _ (s slot : Bytes) (k : Octets s) (so : Octets slot) (name : Span) (e : E
 
   -- where the groups after the one that was reached begin
   pub data Ends (b : Block) : Type 0 where
-    ends : (fs hs : List Group) → groups_in s ≡ fs ++ hs → every is_group hs ≡ true → after_block b ≡ length (form_bytes fs) → Ends b
+    ends : (fs hs : List Group) → groups_in s ≡ fs ++ hs → list_all is_group hs ≡ true → after_block b ≡ length (form_bytes fs) → Ends b
 
   pub found_ends : (b : Block) → Found b → Ends b
   found_ends b (before_all q n a) = ends [] (groups_in s) refl groups (ap after_block n ∙ sym (ap length form_none))
@@ -486,7 +487,7 @@ module _ (s slot : Bytes) (k : Octets s) (so : Octets slot) (name : Span) (e : E
     goes_is es d ds f u ts h ks n w =
         let p = u.long in
         let r = w.long in
-        let t = is_same (compare_rows (onward f.count (row_at s f.name)) (row_at s n.name)) in
+        let t = is_eq (compare_rows (onward f.count (row_at s f.name)) (row_at s n.name)) in
         ap (λ (c : Bool). cond c false (cond (eqb n.count 0) false t)) (ne_eqb f.count 0 (λ z. omega arith))
         ∙ ap (λ (c : Bool). cond c false t) (ne_eqb n.count 0 (λ z. omega arith))
         ∙ (λ j. same (onward (u.count j) (u.first j)) (w.first j))

@@ -8,7 +8,7 @@ use native.Mathlib.Omega.{arith}
 use borrow.Author.Tests.{leb-true}
 use lib.ListN.{length}
 use Rattle.names.specs.Ordering.{Row, ◌<ⁿ◌, ◌≤ⁿ◌, Rising}
-use Rattle.numbers.specs.Lists.{every}
+use Rattle.std.specs.List.{list_all}
 use Rattle.numbers.proofs.Bools.{and_0, and_1}
 use Rattle.numbers.proofs.Every.{every_append}
 use Rattle.slots.specs.Slots.{Slot}
@@ -25,8 +25,8 @@ use Rattle.form_edits.proofs.Zipper.{FirstAbove}
 
 -- groups whose slots are all below x, and groups whose slots are all above it
 pub record Cut (x : Row) (fs hs : List Group) : Type 0 where
-  pub had : every has_slot fs ≡ true
-  pub have : every has_slot hs ≡ true
+  pub had : list_all has_slot fs ≡ true
+  pub have : list_all has_slot hs ≡ true
   pub long : longest fs ≡ true
   pub rest : longest hs ≡ true
   pub under : Under x (ungrouped fs)
@@ -61,9 +61,9 @@ first_slot a [] h = absurd (omega arith)
 first_slot a (x ∷ l) h = (record { line = x; name = a }, run (next a) l, refl, refl)
 
 -- groups that begin above x lie above it
-pub groups_over : (x : Row) (hs : List Group) → every has_slot hs ≡ true → Rising (map name_in (ungrouped hs)) → FirstAbove x hs → Over x (map name_in (ungrouped hs))
+pub groups_over : (x : Row) (hs : List Group) → list_all has_slot hs ≡ true → Rising (map name_in (ungrouped hs)) → FirstAbove x hs → Over x (map name_in (ungrouped hs))
 groups_over x [] v r a = over_none
-groups_over x (h ∷ hs) v r a = go (first_slot h.first h.lines (leb-true 1 (size h) (and_0 (has_slot h) (every has_slot hs) v)))
+groups_over x (h ∷ hs) v r a = go (first_slot h.first h.lines (leb-true 1 (size h) (and_0 (has_slot h) (list_all has_slot hs) v)))
   where
     go : ((y : Slot) × (m : List Slot) × (run h.first h.lines ≡ y ∷ m) × (y.name ≡ h.first)) → Over x (map name_in (ungrouped (h ∷ hs)))
     go (y, m, e, n) =
@@ -79,25 +79,25 @@ rest_longest g p (h ∷ hs) e l = ap (λ (a : Row). apart (record { first = a; l
 
 -- groups fs, g and hs of a page
 pub record Stood (fs : List Group) (g : Group) (hs : List Group) : Type 0 where
-  pub have : every has_slot (fs ++ (g ∷ hs)) ≡ true
+  pub have : list_all has_slot (fs ++ (g ∷ hs)) ≡ true
   pub long : longest (fs ++ (g ∷ hs)) ≡ true
   pub order : Rising (map name_in (ungrouped (fs ++ (g ∷ hs))))
 
 module _ {fs : List Group} {g : Group} {hs : List Group} (v : Stood fs g hs) where
-  haves : every has_slot fs && every has_slot (g ∷ hs) ≡ true
+  haves : list_all has_slot fs && list_all has_slot (g ∷ hs) ≡ true
   haves = sym (every_append has_slot fs (g ∷ hs)) ∙ v.have
 
-  pub had_before : every has_slot fs ≡ true
-  had_before = and_0 (every has_slot fs) (every has_slot (g ∷ hs)) haves
+  pub had_before : list_all has_slot fs ≡ true
+  had_before = and_0 (list_all has_slot fs) (list_all has_slot (g ∷ hs)) haves
 
-  haves_from : every has_slot (g ∷ hs) ≡ true
-  haves_from = and_1 (every has_slot fs) (every has_slot (g ∷ hs)) haves
+  haves_from : list_all has_slot (g ∷ hs) ≡ true
+  haves_from = and_1 (list_all has_slot fs) (list_all has_slot (g ∷ hs)) haves
 
   pub has_slot_lem : 1 ≤ size g
-  has_slot_lem = leb-true 1 (size g) (and_0 (has_slot g) (every has_slot hs) haves_from)
+  has_slot_lem = leb-true 1 (size g) (and_0 (has_slot g) (list_all has_slot hs) haves_from)
 
-  pub have_after : every has_slot hs ≡ true
-  have_after = and_1 (has_slot g) (every has_slot hs) haves_from
+  pub have_after : list_all has_slot hs ≡ true
+  have_after = and_1 (has_slot g) (list_all has_slot hs) haves_from
 
   longs : longest fs && (last_apart fs g.first && longest (g ∷ hs)) ≡ true
   longs = sym (longest_apart fs g hs) ∙ v.long
@@ -147,7 +147,7 @@ module _ {fs : List Group} {g : Group} {hs : List Group} (v : Stood fs g hs) whe
 
     pub cut : Cut x (fs ++ piece g.first l) (piece b r ++ hs)
     cut = record {
-      had = every_append has_slot fs (piece g.first l) ∙ (λ i. had_before i && (ap (every has_slot) (sym (append-nil (piece g.first l))) ∙ piece_has g.first l [] refl) i);
+      had = every_append has_slot fs (piece g.first l) ∙ (λ i. had_before i && (ap (list_all has_slot) (sym (append-nil (piece g.first l))) ∙ piece_has g.first l [] refl) i);
       have = piece_has b r hs have_after;
       long = pieces_before l;
       rest = pieces_after r ends;

@@ -7,7 +7,7 @@ use native.Mathlib.Omega.{arith}
 use borrow.Author.Tests.{le-leb}
 use lib.ListN.{length}
 use Rattle.names.specs.Ordering.{Row}
-use Rattle.numbers.specs.Lists.{every}
+use Rattle.std.specs.List.{list_all}
 use Rattle.groups.specs.Groups.{Group, run, ungrouped, name_after, longest}
 use Rattle.groups.proofs.Glue.{same, has_slot}
 
@@ -40,6 +40,6 @@ pub piece_slots : (a : Row) (l : List ℕ) (gs : List Group) → ungrouped (piec
 piece_slots a [] gs = refl
 piece_slots a (x ∷ l) gs = refl
 
-pub piece_has : (a : Row) (l : List ℕ) (gs : List Group) → every has_slot gs ≡ true → every has_slot (piece a l ++ gs) ≡ true
+pub piece_has : (a : Row) (l : List ℕ) (gs : List Group) → list_all has_slot gs ≡ true → list_all has_slot (piece a l ++ gs) ≡ true
 piece_has a [] gs e = e
 piece_has a (x ∷ l) gs e = λ i. le-leb 1 (length (x ∷ l)) (omega arith) i && e i

@@ -7,8 +7,8 @@ use native.Mathlib.Omega.{arith}
 use native.Mathlib.Decide.{dec_le}
 use borrow.Author.Tests.{ltb-true, ltb-false, eqb-true, le-leb, eq-eqb}
 use lib.Dec.{eqb, ltb, leb}
-use Rattle.names.specs.declared.Order.{Order}
-use Rattle.names.specs.declared.Order.TheVariants.{Less, Same, More}
+use Rattle.std.specs.declared.cmp.Ordering.{Ordering}
+use Rattle.std.specs.declared.cmp.Ordering.TheVariants.{Less, Equal, Greater}
 use Rattle.names.specs.Ordering.{Row, compare_rows, ◌<ⁿ◌}
 use Rattle.names.specs.Names.{is_name}
 use Rattle.names.proofs.Laws.{ℕ_less, less_row, row_same}
@@ -72,10 +72,10 @@ module _ (g : Group) (x : Row) (named : is_name g.first ≡ true) (low : not_abo
   compares e k = compared g.first x named k ∙ ap (λ (s : Stand). against s k) e
 
   -- it is not below
-  not_below : {s : Stand} → beside_of g.first x ≡ s → ¬ (against s 0 ≡ More)
+  not_below : {s : Stand} → beside_of g.first x ≡ s → ¬ (against s 0 ≡ Greater)
   not_below e m = yes_no low (ap not_above (compares e 0 ∙ m))
 
-  differs : {o : Order} → compare_rows (name_after g) x ≡ o → ¬ (o ≡ Same) → ¬ (name_after g ≡ x)
+  differs : {o : Ordering} → compare_rows (name_after g) x ≡ o → ¬ (o ≡ Equal) → ¬ (name_after g ≡ x)
   differs c n e = n (sym c ∙ ap (λ (y : Row). compare_rows y x) e ∙ row_same x)
 
   pub met_after : (j : Bool) → met_by (beside_of g.first x) (size g) ≡ After j → AboveAll g x j
@@ -99,18 +99,18 @@ module _ (g : Group) (x : Row) (named : is_name g.first ≡ true) (low : not_abo
           apart : (i : ℕ) → size g ≤ i → eqb i (size g) ≡ false → size g < i
           apart i h q = elim (dec_le i (size g)) [ yes l ↦ absurd (yes_no (eq-eqb i (size g) (omega arith)) q) | no l ↦ omega arith ]
 
-          less_same : ¬ (Less ≡ Same)
+          less_same : ¬ (Less ≡ Equal)
           less_same z = let w : ◌≡◌ {A = ℕ} 0 1 = cc in omega arith
       go (Beyond i) e m =
           let v = beyond_after (ltb (i + 1) (size g)) (i + 1) j m in
           let h = ltb-false (i + 1) (size g) v.0 in
           record {
-            under = λ k l. less_row (onward k g.first) x (compares e k ∙ ap (λ (b : Bool). cond b Less More) (le-leb k i (omega arith)));
+            under = λ k l. less_row (onward k g.first) x (compares e k ∙ ap (λ (b : Bool). cond b Less Greater) (le-leb k i (omega arith)));
             next = λ q. absurd (yes_no q (sym v.1));
             other = λ q. differs (compares e (size g)) (either (leb (size g) i));
           }
         where
-          either : (b : Bool) → ¬ (cond b Less More ≡ Same)
+          either : (b : Bool) → ¬ (cond b Less Greater ≡ Equal)
           either true z = let w : ◌≡◌ {A = ℕ} 0 1 = cc in omega arith
           either false z = let w : ◌≡◌ {A = ℕ} 0 1 = cc in omega arith
       go Above e m = record {

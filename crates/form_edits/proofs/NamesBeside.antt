@@ -12,8 +12,9 @@ use borrow.Author.Tests.{lt-ltb, eq-eqb, ne_eqb}
 use lib.Dec.{eqb}
 use lib.IntN.{pos}
 use lib.ListN.{length, take, length-append}
-use Rattle.names.specs.declared.Order.{Order}
-use Rattle.names.specs.Ordering.{Row, compare_rows, is_same, ◌<ⁿ◌}
+use Rattle.std.specs.declared.cmp.Ordering.{Ordering}
+use Rattle.names.specs.Ordering.{Row, compare_rows, ◌<ⁿ◌}
+use Rattle.std.specs.Ordering.{is_eq}
 use Rattle.names.specs.Names.{is_name}
 use Rattle.names.proofs.Laws.{Tri, below as is_below, level as is_level, above as is_above, tri_n}
 use Rattle.numbers.specs.Bytes.{Bytes, at32, signed}
@@ -32,10 +33,10 @@ use Rattle.runs.proofs.ByOffsets.{reaching}
 use Rattle.runs.proofs.SameButLast.{beside_same, beside_other}
 use Rattle.forms.specs.Blocks.{not_above}
 
-pub other_length : (k : ℕ) (a b : Row) → ¬ (length a ≡ length b) → is_same (compare_rows (onward k a) b) ≡ false
+pub other_length : (k : ℕ) (a b : Row) → ¬ (length a ≡ length b) → is_eq (compare_rows (onward k a) b) ≡ false
 other_length k a b n = go (compare_rows (onward k a) b) (tri_n (onward k a) b)
   where
-    go : (o : Order) → Tri ◌<ⁿ◌ (onward k a) b o → is_same o ≡ false
+    go : (o : Ordering) → Tri ◌<ⁿ◌ (onward k a) b o → is_eq o ≡ false
     go _ (is_below h) = refl
     go _ (is_level h) = absurd (n (sym (onward_length k a) ∙ ap length h))
     go _ (is_above h) = refl

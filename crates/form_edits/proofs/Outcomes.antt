@@ -30,7 +30,7 @@ use Rattle.forms.specs.declared.Looked.{Looked}
 use Rattle.forms.specs.Blocks.{nowhere, sought_from, no_form, looked}
 use Rattle.form_changes.specs.declared.Change.{Change}
 use Rattle.form_changes.specs.Changes.{given, changed}
-use Rattle.form_edits.specs.declared.Checked.TheVariants.{Refused as NotChecked, Passed as Checked}
+use Rattle.std.specs.declared.result.Result.TheVariants.{Ok, Err}
 use Rattle.form_edits.specs.declared.Insertion.{Insertion}
 use Rattle.form_edits.specs.Edits.{looked_tests, place_in, Edited, Inserts}
 use Rattle.form_edits.proofs.Chosen.{Removes}
@@ -110,15 +110,15 @@ looked_tests_lem {A} s slot x refusing after = go (keeps_form s) refl
     go false e = refl
 
 module _ (s slot : Bytes) (x : Row) where
-  apart : (r : Refusal) → NotChecked r ≡ Checked → ⊥
+  apart : (r : Refusal) → Err r ≡ (Ok tt) → ⊥
   apart r e = let z : ◌≡◌ {A = ℕ} 0 1 = cc in omega arith
 
-  told : in_order (edit_tests s slot) NotChecked Checked ≡ in_order (looked_tests (looked s x) slot) NotChecked Checked
-  told = sym (looked_tests_lem s slot x NotChecked Checked)
+  told : in_order (edit_tests s slot) Err (Ok tt) ≡ in_order (looked_tests (looked s x) slot) Err (Ok tt)
+  told = sym (looked_tests_lem s slot x Err (Ok tt))
 
-  pub all_passed : in_order (looked_tests (looked s x) slot) NotChecked Checked ≡ Checked → Passed (form_tests s) × (keeps_slot slot ≡ true)
+  pub all_passed : in_order (looked_tests (looked s x) slot) Err (Ok tt) ≡ (Ok tt) → Passed (form_tests s) × (keeps_slot slot ≡ true)
   all_passed e =
-      let p = passed_both (form_tests s) (keeps_slot slot else BadLayout ∷ []) (goes_on_lem NotChecked Checked apart (edit_tests s slot) (told ∙ e)) in
+      let p = passed_both (form_tests s) (keeps_slot slot else BadLayout ∷ []) (goes_on_lem Err (Ok tt) apart (edit_tests s slot) (told ∙ e)) in
       (p.0, p.1.0)
 
   -- where all pass the look has found how many slots there are, and where the name would stand
@@ -126,11 +126,11 @@ module _ (s slot : Bytes) (x : Row) where
   unfolding looked
   looked_is e = (ap (λ (b : Bool). (ask b no_form (record { ok = true; rises = rising (map name_in (slots_of_form s)); slots = length (slots_of_form s); place = sought_from x 0 nowhere (groups_in s) })).slots) e, ap (λ (b : Bool). (ask b no_form (record { ok = true; rises = rising (map name_in (slots_of_form s)); slots = length (slots_of_form s); place = sought_from x 0 nowhere (groups_in s) })).place) e)
 
-  module _ (so : Octets slot) (room : ℕ) (r : Refusal) (e : in_order (looked_tests (looked s x) slot) NotChecked Checked ≡ NotChecked r) where
+  module _ (so : Octets slot) (room : ℕ) (r : Refusal) (e : in_order (looked_tests (looked s x) slot) Err (Ok tt) ≡ Err r) where
     fails : FirstFails r (form_tests s) ⊎ (Passed (form_tests s) × FirstFails r (keeps_slot slot else BadLayout ∷ []))
     fails =
         fails_in (form_tests s) (keeps_slot slot else BadLayout ∷ [])
-        (refuses NotChecked Checked apart (λ q r f. cc) (edit_tests s slot) (told ∙ e))
+        (refuses Err (Ok tt) apart (λ q r f. cc) (edit_tests s slot) (told ∙ e))
 
     pub insert_refused : insert_form_outcome s slot room ≡ refuse r
     unfolding insert_form_outcome

@@ -12,12 +12,13 @@ use borrow.Author.Tests.{le-leb, lt-leb, leb-true}
 use lib.Dec.{leb}
 use lib.ListN.{length, take, drop, get_or, length-append, length-drop, take-append-drop}
 use lib.Seq.{drop-cons, length-take-le}
-use Rattle.names.specs.declared.Order.{Order}
-use Rattle.names.specs.declared.Order.TheVariants.{Less, Same, More}
-use Rattle.names.specs.Ordering.{Row, compare_rows, is_same, ◌<ⁿ◌, ◌≤ⁿ◌, less, equal}
+use Rattle.std.specs.declared.cmp.Ordering.{Ordering}
+use Rattle.std.specs.declared.cmp.Ordering.TheVariants.{Less, Equal, Greater}
+use Rattle.names.specs.Ordering.{Row, compare_rows, ◌<ⁿ◌, ◌≤ⁿ◌, less, equal}
+use Rattle.std.specs.Ordering.{is_eq}
 use Rattle.names.specs.Names.{is_name}
 use Rattle.names.proofs.Laws.{<ⁿ_irrefl, ℕ_less, ℕ_more, less_row, more_row, same_row, row_less}
-use Rattle.numbers.specs.Lists.{every}
+use Rattle.std.specs.List.{list_all}
 use Rattle.numbers.proofs.Bools.{yes_no, never, and_0, and_1}
 use Rattle.numbers.proofs.Every.{every_append}
 use Rattle.slots.specs.Slots.{Slot}
@@ -43,10 +44,10 @@ use Rattle.form_edits.proofs.EditedGroups.{Cut, inserted_groups, inserted_absent
 pub not_same : (a b : Row) → ¬ (a ≡ b) → same a b ≡ false
 not_same a b n = never (same a b) (λ e. n (same_row a b (go (compare_rows a b) e)))
   where
-    go : (o : Order) → is_same o ≡ true → o ≡ Same
+    go : (o : Ordering) → is_eq o ≡ true → o ≡ Equal
     go Less e = yes_no e refl
-    go Same e = refl
-    go More e = yes_no e refl
+    go Equal e = refl
+    go Greater e = yes_no e refl
 
 pub piece_some : (a : Row) (l : List ℕ) → 1 ≤ length l → piece a l ≡ record { first = a; lines = l } ∷ []
 piece_some a [] h = absurd (omega arith)
@@ -107,7 +108,7 @@ module _ {fs : List Group} {g : Group} {hs : List Group} (v : Stood fs g hs) (na
   -- ── a name within the run ──
 
   module _ (i : ℕ) (e : beside_of g.first x ≡ Beyond i) (h : i + 1 < size g) where
-    against_is : (k : ℕ) → compare_rows (onward k g.first) x ≡ cond (leb k i) Less More
+    against_is : (k : ℕ) → compare_rows (onward k g.first) x ≡ cond (leb k i) Less Greater
     against_is k = compared g.first x named k ∙ ap (λ (s : Stand). against s k) e
 
     abbrev left : List ℕ
@@ -124,9 +125,9 @@ module _ {fs : List Group} {g : Group} {hs : List Group} (v : Stood fs g hs) (na
 
     inside_cut : Cut x (fs ++ piece g.first left) (piece (onward (length left) g.first) right ++ hs)
     inside_cut =
-        cut v x (low_by (against_is 0 ∙ ap (λ (b : Bool). cond b Less More) (le-leb 0 i (omega arith)))) a left right (onward (length left) g.first)
-        (λ k l. less_row (onward k g.first) x (against_is k ∙ ap (λ (b : Bool). cond b Less More) (le-leb k i (omega (arith, left_long)))))
-        (λ k l. subst (λ (n : Row). x <ⁿ n) (onward_add (length left) k g.first) (more_row (onward (length left + k) g.first) x (against_is (length left + k) ∙ ap (λ (b : Bool). cond b Less More) (lt-leb (length left + k) i (omega (arith, left_long))))))
+        cut v x (low_by (against_is 0 ∙ ap (λ (b : Bool). cond b Less Greater) (le-leb 0 i (omega arith)))) a left right (onward (length left) g.first)
+        (λ k l. less_row (onward k g.first) x (against_is k ∙ ap (λ (b : Bool). cond b Less Greater) (le-leb k i (omega (arith, left_long)))))
+        (λ k l. subst (λ (n : Row). x <ⁿ n) (onward_add (length left) k g.first) (more_row (onward (length left + k) g.first) x (against_is (length left + k) ∙ ap (λ (b : Bool). cond b Less Greater) (lt-leb (length left + k) i (omega (arith, left_long))))))
         (λ l. let m : length left + length right ≡ size g = omega (arith, left_long, right_long) in sym (onward_add (length left) (length right) g.first) ∙ ap (λ (n : ℕ). onward n g.first) m)
 
     -- the name is deeper than those of the run
@@ -146,7 +147,7 @@ module _ {fs : List Group} {g : Group} {hs : List Group} (v : Stood fs g hs) (na
         not_same (next s.name) (onward (length left) g.first)
         (λ z. omega (arith, ap length z, next_length s.name, ap length n, onward_length (length left) g.first, deeper (subst (Says g.first x) e (says g.first x named)))) in
         let off : not (same (name_after p) s.name) ≡ true =
-        ap not (ap (same (name_after p)) n ∙ ap is_same (against_is (length left)) ∙ ap (λ (b : Bool). is_same (cond b Less More)) (lt-leb (length left) i (omega (arith, left_long)))) in
+        ap not (ap (same (name_after p)) n ∙ ap is_eq (against_is (length left)) ∙ ap (λ (b : Bool). is_eq (cond b Less Greater)) (lt-leb (length left) i (omega (arith, left_long)))) in
         ap (λ (l : List Slot). grouped (placed s l)) (whole left right (take-append-drop (i + 1) g.lines))
         ∙ inserted_groups s (subst (λ (y : Row). Cut y (fs ++ piece g.first left) (piece (onward (length left) g.first) right ++ hs)) (sym n) inside_cut)
         ∙ (λ j. glue (fs ++ one j) (joined s (two j)))
@@ -224,7 +225,7 @@ module _ {fs : List Group} {g : Group} {hs : List Group} (v : Stood fs g hs) (na
     not_above_lem q = go i q
       where
         go : (i : ℕ) → compare_rows g.first x ≡ against (At i) 0 → g.first ≤ⁿ x
-        go zero q = equal (same_row g.first x (q ∙ ap (λ (o : Order). o) refl))
+        go zero q = equal (same_row g.first x (q ∙ ap (λ (o : Ordering). o) refl))
         go (suc i) q = less (less_row g.first x (q ∙ ℕ_less 0 (suc i) (omega arith)))
 
     here_cut : Cut x (fs ++ piece g.first left') (piece after' right' ++ hs)
@@ -265,8 +266,8 @@ module _ {fs : List Group} {g : Group} {hs : List Group} (v : Stood fs g hs) (na
         (λ es f q z.
         let u : Under g.first (ungrouped es ++ (run f.first f.lines ++ [])) = subst (Under g.first) (ap ungrouped q ∙ ungrouped_append es (f ∷ [])) (under_first v) in
         let w = subst (Under g.first) (append-nil (run f.first f.lines)) (under_rest (ungrouped es) (run f.first f.lines ++ []) u) in
-        let k : every has_slot (es ++ (f ∷ [])) ≡ true = ap (every has_slot) (sym q) ∙ had_before v in
-        let n = leb-true 1 (size f) (and_0 (has_slot f) true (and_1 (every has_slot es) (has_slot f && true) (sym (every_append has_slot es (f ∷ [])) ∙ k))) in
+        let k : list_all has_slot (es ++ (f ∷ [])) ≡ true = ap (list_all has_slot) (sym q) ∙ had_before v in
+        let n = leb-true 1 (size f) (and_0 (has_slot f) true (and_1 (list_all has_slot es) (has_slot f && true) (sym (every_append has_slot es (f ∷ [])) ∙ k))) in
         no_loop f g.first n w z)
 
     abbrev both : List Group → List Group → Type 0
@@ -288,7 +289,7 @@ module _ {fs : List Group} {g : Group} {hs : List Group} (v : Stood fs g hs) (na
         let l = piece_some g.first left' (omega (arith, left_long')) in
         let r = piece_some after' right' (omega (arith, right_long')) in
         let c = onward_compare g.first (name_long g.first named) (length left') (i + 1) ∙ ℕ_less (length left') (i + 1) (omega (arith, left_long')) in
-        let o : last_apart (fs ++ (p ∷ [])) after' ≡ true = last_of fs p after' ∙ ap (λ (o : Order). not (is_same o)) c in
+        let o : last_apart (fs ++ (p ∷ [])) after' ≡ true = last_of fs p after' ∙ ap (λ (o : Ordering). not (is_eq o)) c in
         subst (λ (l : List Group). both l (piece after' right')) (sym l)
         (subst (λ (r : List Group). both (p ∷ []) r) (sym r) (glue_append (fs ++ (p ∷ [])) (record { first = after'; lines = right' }) hs o))
 
@@ -307,7 +308,7 @@ module _ {fs : List Group} {g : Group} {hs : List Group} (v : Stood fs g hs) (na
             let p : Group = record { first = g.first; lines = take i g.lines } in
             let e : name_after p ≡ x = ap (λ (n : ℕ). onward n g.first) left_long' ∙ sym name_here in
             let c : compare_rows (name_after p) h.first ≡ Less = ap (λ (y : Row). compare_rows y h.first) e ∙ row_less a in
-            glue_append (fs ++ (p ∷ [])) h hs (last_of fs p h.first ∙ ap (λ (o : Order). not (is_same o)) c)
+            glue_append (fs ++ (p ∷ [])) h hs (last_of fs p h.first ∙ ap (λ (o : Ordering). not (is_eq o)) c)
 
     -- what is left of a run of several, before the name and after it
     pub leaves : 1 < size g

@@ -6,8 +6,8 @@ use mathlib.Core.Bool.{Bool, true, false, cond}
 use Prim.Native.Nat.{ℕ, ◌+◌}
 use native.Mathlib.Omega.{arith}
 use lib.ListN.{length, length-append}
-use Rattle.names.specs.declared.Order.{Order}
-use Rattle.names.specs.declared.Order.TheVariants.{Less, Same, More}
+use Rattle.std.specs.declared.cmp.Ordering.{Ordering}
+use Rattle.std.specs.declared.cmp.Ordering.TheVariants.{Less, Equal, Greater}
 use Rattle.names.specs.Ordering.{Row, compare_rows, ◌<ⁿ◌}
 use Rattle.names.proofs.Laws.{more_row}
 use Rattle.numbers.proofs.Bools.{yes_no}
@@ -46,10 +46,10 @@ data Passing (x : Row) (fs : List Group) (p : Place) : Type 0 where
 is_above_lem : (a x : Row) → not_above (compare_rows a x) ≡ false → x <ⁿ a
 is_above_lem a x e = more_row a x (go (compare_rows a x) e)
   where
-    go : (o : Order) → not_above o ≡ false → o ≡ More
+    go : (o : Ordering) → not_above o ≡ false → o ≡ Greater
     go Less e = yes_no refl e
-    go Same e = yes_no refl e
-    go More e = refl
+    go Equal e = yes_no refl e
+    go Greater e = refl
 
 -- one group further, which begins at q; and no further
 abbrev on : Place → ℕ → Place

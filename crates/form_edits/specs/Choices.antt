@@ -1,7 +1,8 @@
 -- Which change an edit makes of a form, by its groups where they stand; 02 does not speak of it. What comes out is `groups`' insert_form_outcome and
 -- remove_form_outcome.
 use Rattle.std.specs.Prelude.{ℕ, ◌+◌, ◌-◌, ◌*◌, Bool, true, false, cond, eqb, ltb}
-use Rattle.names.specs.Ordering.{Row, compare_rows, is_same}
+use Rattle.names.specs.Ordering.{Row, compare_rows}
+use Rattle.std.specs.Ordering.{is_eq}
 use Rattle.numbers.specs.Bytes.{Bytes}
 use Rattle.slots.specs.declared.Span.{Span}
 use Rattle.slots.specs.Tuples.{row_at}
@@ -55,7 +56,7 @@ precedes_in s x b = cond (eqb b.count 0) false (is_next x (row_at s b.name))
 abbrev pub goes_on : Bytes → Block → Block → Bool
 goes_on s b c =
     cond (eqb b.count 0) false
-    (cond (eqb c.count 0) false (is_same (compare_rows (onward b.count (row_at s b.name)) (row_at s c.name))))
+    (cond (eqb c.count 0) false (is_eq (compare_rows (onward b.count (row_at s b.name)) (row_at s c.name))))
 
 -- ── changes ──
 

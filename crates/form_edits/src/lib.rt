@@ -319,11 +319,11 @@ fn insert_into(
     let block = block_by(form, 0 < place.groups, place.here);
     let met = meet(form, block, slot, name);
     if is_here(met) {
-        return Answer::Refused(Refusal::Present);
+        return Err(Refusal::Present);
     }
     let insertion = placed(form, block, met, slot, name);
     if SLOTS <= slots {
-        return Answer::Refused(Refusal::Full);
+        return Err(Refusal::Full);
     }
     form_changes::put_in(form, slot, insertion.head, insertion.change, out)
 }
@@ -454,8 +454,8 @@ fn remove_from(form: &[u8], place: Place, slot: &[u8], name: Span, out: &mut [u8
             taken_out(form, before, block, i, slot, name),
             out,
         ),
-        Met::Inside(_) => Answer::Refused(Refusal::Absent),
-        Met::After(_) => Answer::Refused(Refusal::Absent),
+        Met::Inside(_) => Err(Refusal::Absent),
+        Met::After(_) => Err(Refusal::Absent),
     }
 }
 
@@ -470,21 +470,21 @@ enum Checked {
 
 // 15, 2, 11, 1 (slot).
 fn check_edit(looked: Looked, slot: &[u8]) -> Checked
-    ensures { result ≡ in_order (looked_tests looked slot.now) Checked.Refused Checked.Passed }
+    ensures { result ≡ in_order (looked_tests looked slot.now) Err (Ok tt) }
 {
     if !looked.ok {
-        return Checked::Refused(Refusal::Malformed);
+        return Err(Refusal::Malformed);
     }
     if !looked.rises {
-        return Checked::Refused(Refusal::NotRising);
+        return Err(Refusal::NotRising);
     }
     if SLOTS < looked.slots {
-        return Checked::Refused(Refusal::Full);
+        return Err(Refusal::Full);
     }
     if !pages::slot_ok(slot) {
-        return Checked::Refused(Refusal::BadLayout);
+        return Err(Refusal::BadLayout);
     }
-    Checked::Passed
+    Ok(())
 }
 
 // 15, 2, 11, 1 (slot), 9, 11, 8; else the form of the page with the slot at its rising place.
@@ -495,8 +495,8 @@ pub fn insert(form: &[u8], slot: &[u8], out: &mut [u8]) -> Answer
     let name = name_in(slot);
     let looked = forms::look(form, slot, name);
     match check_edit(looked, slot) {
-        Checked::Refused(r) => Answer::Refused(r),
-        Checked::Passed => insert_into(form, looked.slots, looked.place, slot, name, out),
+        Err(r) => Err(r),
+        Ok(()) => insert_into(form, looked.slots, looked.place, slot, name, out),
     }
 }
 
@@ -508,7 +508,7 @@ pub fn remove(form: &[u8], slot: &[u8], out: &mut [u8]) -> Answer
     let name = name_in(slot);
     let looked = forms::look(form, slot, name);
     match check_edit(looked, slot) {
-        Checked::Refused(r) => Answer::Refused(r),
-        Checked::Passed => remove_from(form, looked.place, slot, name, out),
+        Err(r) => Err(r),
+        Ok(()) => remove_from(form, looked.place, slot, name, out),
     }
 }

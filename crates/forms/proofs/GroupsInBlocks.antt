@@ -10,9 +10,10 @@ use native.Mathlib.Omega.{arith}
 use borrow.Author.Tests.{le-leb, lt-leb, leb-true, lt-ltb, le-ltb, eq-eqb, ne_eqb}
 use lib.Dec.{leb, eqb, ltb}
 use lib.ListN.{length}
-use Rattle.names.specs.declared.Order.{Order}
-use Rattle.names.specs.declared.Order.TheVariants.{Less, More}
-use Rattle.names.specs.Ordering.{Row, compare_ℕ, compare_rows, is_less, is_same}
+use Rattle.std.specs.declared.cmp.Ordering.{Ordering}
+use Rattle.std.specs.declared.cmp.Ordering.TheVariants.{Less, Greater}
+use Rattle.names.specs.Ordering.{Row, compare_ℕ, compare_rows}
+use Rattle.std.specs.Ordering.{is_lt, is_eq}
 use Rattle.names.specs.Names.{limit, fits, is_name}
 use Rattle.names.proofs.Laws.{ℕ_less, ℕ_same, ℕ_more, ℕ_cases, row_less}
 use Rattle.names.proofs.TestedOrder.{above_none}
@@ -83,8 +84,8 @@ module _ (s : Bytes) (x : Block) where
 -- ── a name after it ──
 
 -- by what comparing with the name after the last and with the last tells
-abbrev pub told : Order → Order → After
-told next last = cond (not (is_same next)) (cond (is_less last) Rises Falls) Joins
+abbrev pub told : Ordering → Ordering → After
+told next last = cond (not (is_eq next)) (cond (is_lt last) Rises Falls) Joins
 
 by_numbers : (i n : ℕ) → 1 ≤ n → cond (ltb i n) Falls (cond (eqb i n) Joins Rises) ≡ told (compare_ℕ n i) (compare_ℕ (n - 1) i)
 by_numbers i n h = elim (ℕ_cases i n) [
@@ -98,15 +99,15 @@ by_numbers i n h = elim (ℕ_cases i n) [
   ]
 ]
   where
-    when : {b c : Bool} {o q : Order} → ltb i n ≡ b → eqb i n ≡ c → compare_ℕ n i ≡ o → compare_ℕ (n - 1) i ≡ q → cond b Falls (cond c Joins Rises) ≡ told o q
+    when : {b c : Bool} {o q : Ordering} → ltb i n ≡ b → eqb i n ≡ c → compare_ℕ n i ≡ o → compare_ℕ (n - 1) i ≡ q → cond b Falls (cond c Joins Rises) ≡ told o q
         → cond (ltb i n) Falls (cond (eqb i n) Joins Rises) ≡ told (compare_ℕ n i) (compare_ℕ (n - 1) i)
     when e f g k z = (λ j. cond (e j) Falls (cond (f j) Joins Rises)) ∙ z ∙ sym (λ j. told (g j) (k j))
 
-never_same : (b : Bool) → is_same (cond b Less More) ≡ false
+never_same : (b : Bool) → is_eq (cond b Less Greater) ≡ false
 never_same true = refl
 never_same false = refl
 
-is_less_lem : (b : Bool) → is_less (cond b Less More) ≡ b
+is_less_lem : (b : Bool) → is_lt (cond b Less Greater) ≡ b
 is_less_lem true = refl
 is_less_lem false = refl
 

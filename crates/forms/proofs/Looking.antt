@@ -8,9 +8,10 @@ use Prim.Native.Nat.{ℕ, ◌+◌, ◌*◌, ◌≤◌, ◌<◌}
 use native.Mathlib.Omega.{arith}
 use borrow.Author.Tests.{ne_eqb}
 use lib.ListN.{length, drop, length-append, length-drop, drop_of_length-le}
-use Rattle.names.specs.Ordering.{Row, compare_rows, is_less, rising}
+use Rattle.names.specs.Ordering.{Row, compare_rows, rising}
+use Rattle.std.specs.Ordering.{is_lt}
 use Rattle.numbers.specs.Bytes.{Bytes}
-use Rattle.numbers.specs.Lists.{every}
+use Rattle.std.specs.List.{list_all}
 use Rattle.slots.specs.Tuples.{row_at}
 use Rattle.slots.proofs.TuplesInBytes.{length_tuples_at}
 use Rattle.answers.specs.Answers.{ask}
@@ -33,7 +34,7 @@ use Rattle.forms.proofs.NamesAlong.{names_in, group_rising, first_longest, first
 
 -- what is left of the test of a form after the group g: t is left of its bytes
 abbrev keeps_after : Group → Bytes → Bool
-keeps_after g t = nothing (rest_in t) && every is_group (groups_in t) && longest (g ∷ groups_in t)
+keeps_after g t = nothing (rest_in t) && list_all is_group (groups_in t) && longest (g ∷ groups_in t)
 
 -- the groups before `at` were passed, with so many slots, and the last of them is `last`
 pub record Looking (s : Bytes) (x : Row) (place : Place) (last : Block) (rises : Bool) (slots at : ℕ) : Type 0 where
@@ -131,7 +132,7 @@ module _ {s : Bytes} {x : Row} {place : Place} {last : Block} {rises : Bool} {sl
   looking_end h =
       let d : t ≡ [] = drop_of_length-le s h in
       let n : groups_in t ≡ [] = ap groups_in d in
-      let e : keeps_form s ≡ true = sym v.keeps ∙ (λ i. nothing (rest_in (d i)) && every is_group (n i) && longest (g ∷ n i)) in
+      let e : keeps_form s ≡ true = sym v.keeps ∙ (λ i. nothing (rest_in (d i)) && list_all is_group (n i) && longest (g ∷ n i)) in
       let r : rises ≡ rising (names_in (groups_in s)) = sym (and-true rises) ∙ sym (ap (λ (l : List Group). rises && rising (last_name g ∷ names_in l)) n) ∙ v.order e in
       let c : slots ≡ length (slots_of_form s) = let z = ap (λ (l : List Group). length (ungrouped l)) n in let w = v.count in omega arith in
       let f : place ≡ sought_from x 0 nowhere (groups_in s) = sym (ap (sought_from x at place) n) ∙ v.found in
@@ -155,8 +156,8 @@ module _ {s : Bytes} {x : Row} {place : Place} {last : Block} {rises : Bool} {sl
         let left : nothing t ≡ false = ne_eqb (length t) 0 (λ q. omega arith) in
         looked_none s x
         (sym v.keeps
-        ∙ (λ i. nothing (rest_stop t e i) && every is_group (groups_in t) && longest (g ∷ groups_in t))
-        ∙ ap (λ (c : Bool). c && every is_group (groups_in t) && longest (g ∷ groups_in t)) left)
+        ∙ (λ i. nothing (rest_stop t e i) && list_all is_group (groups_in t) && longest (g ∷ groups_in t))
+        ∙ ap (λ (c : Bool). c && list_all is_group (groups_in t) && longest (g ∷ groups_in t)) left)
 
     module _ (z : block.stands ≡ true) where
       stood : group_stands t ≡ true
@@ -183,8 +184,8 @@ module _ {s : Bytes} {x : Row} {place : Place} {last : Block} {rises : Bool} {sl
       rest_is : rest_in t ≡ rest_in rest
       rest_is = rest_turn t stood ∙ ap rest_in goes_on_lem
 
-      turn : nothing (rest_in rest) && (is_group h && every is_group hs) && (apart g h && longest (h ∷ hs)) ≡ keeps_form s
-      turn = sym (λ i. nothing (rest_is i) && every is_group (along i) && longest (g ∷ along i)) ∙ v.keeps
+      turn : nothing (rest_in rest) && (is_group h && list_all is_group hs) && (apart g h && longest (h ∷ hs)) ≡ keeps_form s
+      turn = sym (λ i. nothing (rest_is i) && list_all is_group (along i) && longest (g ∷ along i)) ∙ v.keeps
 
       -- it ends further on
       lines_is : block.lines ≡ at + field_head + size_in t + after_name
@@ -198,18 +199,18 @@ module _ {s : Bytes} {x : Row} {place : Place} {last : Block} {rises : Bool} {sl
       looking_bad f =
           let n = nothing (rest_in rest) in
           let l = apart g h && longest (h ∷ hs) in
-          looked_none s x (sym turn ∙ ap (λ (c : Bool). n && (c && every is_group hs) && l) f ∙ ap (λ (c : Bool). c && l) (and-false n))
+          looked_none s x (sym turn ∙ ap (λ (c : Bool). n && (c && list_all is_group hs) && l) f ∙ ap (λ (c : Bool). c && l) (and-false n))
 
       -- it goes on where the one before ends
       pub looking_joins : after_group_of (group_of s last) (row_at s block.name) ≡ Joins → no_form ≡ looked s x
       looking_joins f =
-          let n = nothing (rest_in rest) && (is_group h && every is_group hs) in
+          let n = nothing (rest_in rest) && (is_group h && list_all is_group hs) in
           looked_none s x
-          (sym turn ∙ ap (λ (c : Bool). n && (c && longest (h ∷ hs))) (joins_told (apart g h) (is_less (compare_rows (last_name g) h.first)) f) ∙ and-false n)
+          (sym turn ∙ ap (λ (c : Bool). n && (c && longest (h ∷ hs))) (joins_told (apart g h) (is_lt (compare_rows (last_name g) h.first)) f) ∙ and-false n)
 
       -- it is a group after which the look goes on; c is whether it begins above the last name
       module _ (u : Stood s block) (f : is_group (group_of s block) ≡ true) where
-        passed : {c : Bool} → (apart g h ≡ true) × (is_less (compare_rows (last_name g) h.first) ≡ c)
+        passed : {c : Bool} → (apart g h ≡ true) × (is_lt (compare_rows (last_name g) h.first) ≡ c)
             → Looking s x (sought x at (row_at s block.name) place) block (rises && c) (slots + block.count) (end_of block)
         passed {c} a =
             let w = group_named s block f in
@@ -225,7 +226,7 @@ module _ {s : Bytes} {x : Row} {place : Place} {last : Block} {rises : Bool} {sl
               sound = (u, λ e. absurd (omega (arith, w.long)), λ e. f);
               room = omega arith;
               few = omega (arith, v.few, sought_few x at (row_at s block.name) place);
-              keeps = (λ i. nothing (rest_in rest) && (sym f i && every is_group hs) && (sym a.0 i && longest (h ∷ hs))) ∙ turn;
+              keeps = (λ i. nothing (rest_in rest) && (sym f i && list_all is_group hs) && (sym a.0 i && longest (h ∷ hs))) ∙ turn;
               order = λ e.
                   and_assoc rises c names
                   ∙ ap (λ (d : Bool). rises && (d && names)) (sym a.1)
@@ -243,7 +244,7 @@ module _ {s : Bytes} {x : Row} {place : Place} {last : Block} {rises : Bool} {sl
             }
 
         module _ {place' : Place} {q : ℕ} (p : place' ≡ sought x at (row_at s block.name) place) (e : q ≡ end_of block) where
-          on : {c d : Bool} → d ≡ rises && c → (apart g h ≡ true) × (is_less (compare_rows (last_name g) h.first) ≡ c)
+          on : {c d : Bool} → d ≡ rises && c → (apart g h ≡ true) × (is_lt (compare_rows (last_name g) h.first) ≡ c)
               → Looking s x place' block d (slots + block.count) q
           on {d = d} r a =
               let n = slots + block.count in
@@ -252,7 +253,7 @@ module _ {s : Bytes} {x : Row} {place : Place} {last : Block} {rises : Bool} {sl
               (subst (Looking s x (sought x at (row_at s block.name) place) block (rises && _) n) (sym e) (passed a)))
 
           pub looking_rises : {d : Bool} → after_group_of (group_of s last) (row_at s block.name) ≡ Rises → d ≡ rises → Looking s x place' block d (slots + block.count) q
-          looking_rises o r = on (r ∙ sym (and-true rises)) (rises_told (apart g h) (is_less (compare_rows (last_name g) h.first)) o)
+          looking_rises o r = on (r ∙ sym (and-true rises)) (rises_told (apart g h) (is_lt (compare_rows (last_name g) h.first)) o)
 
           pub looking_falls : {d : Bool} → after_group_of (group_of s last) (row_at s block.name) ≡ Falls → d ≡ false → Looking s x place' block d (slots + block.count) q
-          looking_falls o r = on (r ∙ sym (and-false rises)) (falls_told (apart g h) (is_less (compare_rows (last_name g) h.first)) o)
+          looking_falls o r = on (r ∙ sym (and-false rises)) (falls_told (apart g h) (is_lt (compare_rows (last_name g) h.first)) o)

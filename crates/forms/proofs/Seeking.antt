@@ -4,7 +4,7 @@ use mathlib.Core.Path.{◌≡◌, sym, ap, ◌∙◌}
 use mathlib.Core.Bool.{Bool, true, false, cond}
 use Prim.Native.Nat.{ℕ, ◌+◌, ◌≤◌}
 use native.Mathlib.Omega.{arith}
-use Rattle.names.specs.declared.Order.{Order}
+use Rattle.std.specs.declared.cmp.Ordering.{Ordering}
 use Rattle.names.specs.Ordering.{Row, compare_rows}
 use Rattle.forms.specs.declared.Place.{Place}
 use Rattle.forms.specs.Blocks.{not_above, sought}
@@ -23,7 +23,7 @@ module _ (x : Row) (p : ℕ) (a : Row) (place : Place) where
   pub sought_over : place.sought ≡ false → place ≡ sought x p a place
   sought_over e = sym (ap (λ (b : Bool). by b (not_above (compare_rows a x)) p place) e)
 
-  module _ {o r : Order} (e : place.sought ≡ true) (c : r ≡ compare_rows a x) (f : r ≡ o) where
+  module _ {o r : Ordering} (e : place.sought ≡ true) (c : r ≡ compare_rows a x) (f : r ≡ o) where
     pub sought_on : by true (not_above o) p place ≡ sought x p a place
     sought_on = sym (λ i. by (e i) (not_above ((sym c ∙ f) i)) p place)
 

@@ -1,9 +1,10 @@
 -- Groups where they stand in the bytes of a form, as the code says it (`Block`, src/lib.rt), and what one look at a form tells; 02 does
 -- not speak of it.
 use Rattle.std.specs.Prelude.{ℕ, ◌+◌, ◌-◌, ◌*◌, ◌/◌, ◌≤◌, ◌≡◌, List, [], ◌∷◌, ◌++◌, map, Bool, true, false, cond, length, drop, eqb, ltb}
-use Rattle.names.specs.declared.Order.{Order}
-use Rattle.names.specs.declared.Order.TheVariants.{Less, Same, More}
-use Rattle.names.specs.Ordering.{Row, compare_rows, is_less, rising}
+use Rattle.std.specs.declared.cmp.Ordering.{Ordering}
+use Rattle.std.specs.declared.cmp.Ordering.TheVariants.{Less, Equal, Greater}
+use Rattle.names.specs.Ordering.{Row, compare_rows, rising}
+use Rattle.std.specs.Ordering.{is_lt}
 use Rattle.numbers.specs.Bytes.{Bytes, bytes16}
 use Rattle.slots.specs.Tuples.{tuple_size, row_at, Within}
 use Rattle.answers.specs.Answers.{ask}
@@ -64,7 +65,7 @@ last_name g = onward (size g - 1) g.first
 
 -- how the name b comes after the group g: as the next of its run, above its last name, or not
 abbrev pub after_group_of : Group → Row → After
-after_group_of g b = cond (apart g (record { first = b; lines = [] })) (cond (is_less (compare_rows (last_name g) b)) Rises Falls) Joins
+after_group_of g b = cond (apart g (record { first = b; lines = [] })) (cond (is_lt (compare_rows (last_name g) b)) Rises Falls) Joins
 
 -- by where b stands beside the run of g, which has so many names
 abbrev pub after_run : Stand → ℕ → After
@@ -77,10 +78,10 @@ after_run Above n = Rises
 -- ── where a name would stand ──
 
 -- a name that is not above another
-abbrev pub not_above : Order → Bool
+abbrev pub not_above : Ordering → Bool
 not_above Less = true
-not_above Same = true
-not_above More = false
+not_above Equal = true
+not_above Greater = false
 
 abbrev pub nowhere : Place
 nowhere = record { sought = true; groups = 0; here = 0; before = 0 }

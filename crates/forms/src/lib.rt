@@ -15,9 +15,10 @@ ghost use Rattle.forms.specs.Blocks.{no_block, block_at, end_of, group_of, Stood
 
 use fields::{Cursor, FIELD};
 use groups::{AFTER_NAME, FIRST_TAG, GROUP, LENGTH, LENGTH_TAG, LINE, LINES_TAG, MOST};
-use names::{LIMIT, Order};
+use names::LIMIT;
 use runs::{OFFSET_SIZE, Stand};
 use slots::{Span, TUPLE};
+use std::cmp::Ordering;
 
 // A group where it stands in a form: its first name, where its line numbers stand, and how many slots it has. Where none stands all is zero.
 #[derive(Clone, Copy)]
@@ -250,19 +251,19 @@ fn seek(form: &[u8], first: Span, at: usize, slot: &[u8], name: Span, place: Pla
         return place;
     }
     match slots::compare_rows(form, first.at, first.count, slot, name.at, name.count) {
-        Order::Less => Place {
+        Ordering::Less => Place {
             sought: true,
             groups: place.groups + 1,
             here: at,
             before: place.here,
         },
-        Order::Same => Place {
+        Ordering::Equal => Place {
             sought: true,
             groups: place.groups + 1,
             here: at,
             before: place.here,
         },
-        Order::More => Place {
+        Ordering::Greater => Place {
             sought: false,
             groups: place.groups,
             here: place.here,

@@ -13,7 +13,7 @@ use Rattle.name_renames.proofs.Rules.{rules}
 use Rattle.numbers.specs.Bytes.{Bytes}
 use Rattle.slots.specs.Slots.{Slot, slot_bytes}
 use Rattle.answers.specs.declared.Refusal.TheVariants.{BadLayout, NotRising}
-use Rattle.answers.specs.declared.Answer.TheVariants.{Accepted}
+use Rattle.std.specs.declared.result.Result.TheVariants.{Ok}
 use Rattle.answers.specs.Answers.{◌else◌, Outcome, refuse, write}
 use Rattle.answers.proofs.Refusals.{passed}
 use Rattle.pages.specs.Pages.{max_slots, slots_of, name_in, names_of, keeps_layout, rises}
@@ -82,8 +82,8 @@ module _ (page log : Bytes) (author : Author) (room n : ℕ) (h : RenamesAll pag
 
   count : length (slots_of page) ≡ n
   count =
-      let c : Accepted (length (slots_of page)) ≡ Accepted n =
-      ap Accepted (sym (length-map (carried f (slots_of page)) slot_bytes ∙ length-map (slots_of page) (carry f)))
+      let c : Ok (length (slots_of page)) ≡ Ok n =
+      ap Ok (sym (length-map (carried f (slots_of page)) slot_bytes ∙ length-map (slots_of page) (carry f)))
       ∙ sym (ap (λ (o : Outcome). o.answer) said.outcome)
       ∙ h.accepted in
       cc
@@ -114,13 +114,13 @@ module _ (page log : Bytes) (author : Author) (room n : ℕ) (h : RenamesAll pag
       ap (λ (gs : List Group). length (form_bytes gs)) groups ∙ omega arith
 
   group_is : (room' : ℕ) → renamed_size n ≤ room' →
-      group_outcome after room' ≡ record { answer = Accepted (renamed_size n); bytes = form_bytes (group ∷ []) }
+      group_outcome after room' ≡ record { answer = Ok (renamed_size n); bytes = form_bytes (group ∷ []) }
   unfolding group_outcome
   group_is room' r =
       let v = (renames.laws).rename_page page log author room n h.given h.accepted in
       passed refuse (write (form_pieces (slots_of after)) room') (keeps_layout after else BadLayout ∷ rises after else NotRising ∷ []) (v.0, (v.1, tt))
       ∙ form_writes (slots_of after) room' (rw form_is r)
-      ∙ (λ i. record { answer = Accepted (form_is i); bytes = form_bytes (groups i) })
+      ∙ (λ i. record { answer = Ok (form_is i); bytes = form_bytes (groups i) })
 
   one_group : OneGroup page log author room n
   one_group = record { groups = groups; count = count; some = some; few = few; form_is = form_is; group_is = group_is; in_packet = let k = few in omega arith }

@@ -13,7 +13,7 @@ use Rattle.names.specs.Ordering.{Row}
 use Rattle.name_renames.specs.Starred.{r0, r1, r2, author}
 use Rattle.numbers.specs.Bytes.{Bytes}
 use Rattle.slots.specs.Slots.{Slot, slot_size}
-use Rattle.answers.specs.declared.Answer.TheVariants.{Accepted}
+use Rattle.std.specs.declared.result.Result.TheVariants.{Ok}
 use Rattle.pages.specs.Pages.{pieces}
 use Rattle.groups.specs.Calls.{group_outcome}
 use Rattle.grouped_renames.specs.Grouped.{RenamesAll, renamed, packet}
@@ -37,4 +37,4 @@ form =
 
 pub record Example : Type 0 where
   pub renames_all : RenamesAll page log author (slot_size * 3) 3
-  pub group_is : group_outcome (renamed page log author (slot_size * 3)) packet ≡ record { answer = Accepted 35; bytes = form }
+  pub group_is : group_outcome (renamed page log author (slot_size * 3)) packet ≡ record { answer = Ok 35; bytes = form }

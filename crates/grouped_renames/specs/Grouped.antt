@@ -7,7 +7,7 @@ use Rattle.name_renames.specs.Rules.{N}
 use Rattle.numbers.specs.Bytes.{Bytes}
 use Rattle.slots.specs.Tuples.{tuple_size}
 use Rattle.slots.specs.Slots.{Slot}
-use Rattle.answers.specs.declared.Answer.TheVariants.{Accepted}
+use Rattle.std.specs.declared.result.Result.TheVariants.{Ok}
 use Rattle.pages.specs.Pages.{max_slots, slots_of, names_of}
 use Rattle.page_renames.specs.Renames.{rename_outcome}
 use Rattle.page_renames.specs.Laws.{Given}
@@ -21,7 +21,7 @@ use Rattle.groups.specs.Calls.{group_outcome}
 pub record RenamesAll (page log : Bytes) (author : Author) (room n : ℕ) : Type 0 where
   pub given : Given page author
   pub all_names : names_of log ≡ names_of page
-  pub accepted : (rename_outcome page log author room).answer ≡ Accepted n
+  pub accepted : (rename_outcome page log author room).answer ≡ Ok n
 
 -- ── its group ──
 
@@ -56,7 +56,7 @@ module _ (page log : Bytes) (author : Author) (room : ℕ) where
     pub form_is : length (form_bytes (grouped (slots_of renamed))) ≡ renamed_size n
     -- which grouping writes where there is room for them,
     pub group_is : (room' : ℕ) → renamed_size n ≤ room' →
-        group_outcome renamed room' ≡ record { answer = Accepted (renamed_size n); bytes = form_bytes (group_of page log author ∷ []) }
+        group_outcome renamed room' ≡ record { answer = Ok (renamed_size n); bytes = form_bytes (group_of page log author ∷ []) }
     -- "so the book fits the old radio packet", however many lines it has
     pub in_packet : renamed_size n ≤ packet
 

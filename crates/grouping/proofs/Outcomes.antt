@@ -9,7 +9,7 @@ use lib.ListN.{length, length-map}
 use Rattle.names.specs.Ordering.{rising}
 use Rattle.numbers.specs.Bytes.{Bytes}
 use Rattle.slots.specs.Slots.{Slot, slot_size, slot_bytes}
-use Rattle.answers.specs.declared.Answer.TheVariants.{Accepted}
+use Rattle.std.specs.declared.result.Result.TheVariants.{Ok}
 use Rattle.answers.specs.declared.Refusal.TheVariants.{BadLayout, NotRising, Short, Full, Malformed}
 use Rattle.answers.specs.Answers.{Test, ◌else◌, Outcome, refuse, write}
 use Rattle.answers.specs.Laws.{here, later}
@@ -48,9 +48,9 @@ module _ (page : Bytes) (room : ℕ) where
     group_short h = goes_on_lem ∙ writes_short (form_pieces (slots_of page)) room (omega (arith, ap length (form_flat (slots_of page))))
 
     pub group_done : (n : ℕ) → n ≡ length (form_bytes (grouped (slots_of page))) → n ≤ room
-        → group_outcome page room ≡ record { answer = Accepted n; bytes = form_bytes (grouped (slots_of page)) }
+        → group_outcome page room ≡ record { answer = Ok n; bytes = form_bytes (grouped (slots_of page)) }
     group_done n q h =
-        goes_on_lem ∙ form_writes (slots_of page) room (omega arith) ∙ ap (λ (m : ℕ). record { answer = Accepted m; bytes = form_bytes (grouped (slots_of page)) }) (sym q)
+        goes_on_lem ∙ form_writes (slots_of page) room (omega arith) ∙ ap (λ (m : ℕ). record { answer = Ok m; bytes = form_bytes (grouped (slots_of page)) }) (sym q)
 
 -- ── from a form ──
 
@@ -87,6 +87,6 @@ module _ (form : Bytes) (room : ℕ) where
         ungroup_short h = form_goes_on ∙ writes_short (pieces slots) room (omega (arith, long))
 
         pub ungroup_done : (n : ℕ) → n ≡ length (slots_of_form form) → slot_size * n ≤ room
-            → ungroup_outcome form room ≡ record { answer = Accepted n; bytes = flatten (pieces (slots_of_form form)) }
+            → ungroup_outcome form room ≡ record { answer = Ok n; bytes = flatten (pieces (slots_of_form form)) }
         ungroup_done n q h =
             form_goes_on ∙ writes (pieces slots) room n (flatten (pieces slots)) (length-map slots slot_bytes ∙ sym q) refl (omega (arith, long))

@@ -7,7 +7,7 @@ use Prim.Native.Nat.{ℕ, ◌+◌, ◌-◌, ◌*◌, ◌<◌, ◌≤◌}
 use native.Mathlib.Omega.{arith}
 use lib.ListN.{length, get_or, drop, length-append, length-drop, length-map, drop_of_length-le, get_or-map}
 use Rattle.numbers.specs.Bytes.{Bytes, at32, put}
-use Rattle.numbers.specs.Lists.{every}
+use Rattle.std.specs.List.{list_all}
 use Rattle.numbers.proofs.Bools.{and_0, and_1}
 use Rattle.numbers.proofs.Every.{every_each}
 use Rattle.numbers.proofs.Lists.{flat_append, flat_none}
@@ -80,7 +80,7 @@ module _ (s : Bytes) (x : Block) where
 pub record Ungrouping (s o₀ o : Bytes) (i at : ℕ) : Type 0 where
   pub few : at ≤ length s
   pub ended : rest_in (drop at s) ≡ []
-  pub sound : every is_group (groups_in (drop at s)) ≡ true
+  pub sound : list_all is_group (groups_in (drop at s)) ≡ true
   pub count : i + length (ungrouped (groups_in (drop at s))) ≡ length (slots_of_form s)
   pub room : length o ≡ length o₀
   pub stand : put o (slot_size * i) (flatten (pieces (ungrouped (groups_in (drop at s))))) ≡ put o₀ 0 (flatten (pieces (slots_of_form s)))
@@ -119,11 +119,11 @@ module _ {s o₀ o : Bytes} {i at : ℕ} (v : Ungrouping s o₀ o i at) where
           ∙ sym (λ j. block_group s at group_there j ∷ groups_in (block_after s at group_there j))
           ∙ ap (λ (y : Block). group_of s y ∷ groups_in (drop (end_of y) s)) (sym f)
 
-      all : every is_group (group_of s x ∷ groups_in (drop (end_of x) s)) ≡ true
-      all = sym (ap (every is_group) next) ∙ v.sound
+      all : list_all is_group (group_of s x ∷ groups_in (drop (end_of x) s)) ≡ true
+      all = sym (ap (list_all is_group) next) ∙ v.sound
 
       pub group_sound : is_group (group_of s x) ≡ true
-      group_sound = and_0 (is_group g) (every is_group left) all
+      group_sound = and_0 (is_group g) (list_all is_group left) all
 
       long : length (slots_in (group_of s x)) ≡ x.count
       long = run_length g.first g.lines ∙ group_size s x
@@ -153,7 +153,7 @@ module _ {s o₀ o : Bytes} {i at : ℕ} (v : Ungrouping s o₀ o i at) where
             record {
               few = m;
               ended = ap (λ (t : Bytes). rest_in t) (ap (λ (y : Block). drop (end_of y) s) f ∙ block_after s at group_there) ∙ sym (rest_turn (drop at s) group_there) ∙ v.ended;
-              sound = and_1 (is_group g) (every is_group left) all;
+              sound = and_1 (is_group g) (list_all is_group left) all;
               count = counted;
               room = ap length e ∙ put_length o (slot_size * i) (omega arith) w (omega arith) ∙ v.room;
               stand =

@@ -143,14 +143,14 @@ pub fn group(page: &[u8], out: &mut [u8]) -> Answer
     ensures out_after { out.new ≡ leaves (group_outcome page.now (length out.old)) out.old }
 {
     match pages::look(page) {
-        Seen::Broken => return Answer::Refused(Refusal::BadLayout),
-        Seen::NotRising => return Answer::Refused(Refusal::NotRising),
+        Seen::Broken => return Err(Refusal::BadLayout),
+        Seen::NotRising => return Err(Refusal::NotRising),
         Seen::Rising => {}
     }
     if !has_room(page, out.len()) {
-        return Answer::Refused(Refusal::Short);
+        return Err(Refusal::Short);
     }
-    Answer::Accepted(write_form(page, out))
+    Ok(write_form(page, out))
 }
 
 // ── and back ──
@@ -191,17 +191,17 @@ pub fn ungroup(form: &[u8], out: &mut [u8]) -> Answer
 {
     let looked = forms::look(form, form, Span { at: 0, count: 0 });
     if !looked.ok {
-        return Answer::Refused(Refusal::Malformed);
+        return Err(Refusal::Malformed);
     }
     if !looked.rises {
-        return Answer::Refused(Refusal::NotRising);
+        return Err(Refusal::NotRising);
     }
     if SLOTS < looked.slots {
-        return Answer::Refused(Refusal::Full);
+        return Err(Refusal::Full);
     }
     if out.len() < SLOT * looked.slots {
-        return Answer::Refused(Refusal::Short);
+        return Err(Refusal::Short);
     }
     write_slots(form, out);
-    Answer::Accepted(looked.slots)
+    Ok(looked.slots)
 }

@@ -7,10 +7,10 @@ use mathlib.Core.Bool.{true}
 use Prim.Native.Nat.{ℕ, ◌≤◌}
 use lib.ListN.{length, length-map}
 use Rattle.numbers.specs.Bytes.{Bytes, Octets}
-use Rattle.numbers.specs.Lists.{every}
+use Rattle.std.specs.List.{list_all}
 use Rattle.slots.specs.Slots.{Slot, slot_bytes, name_of, slot_of, is_slot}
-use Rattle.answers.specs.declared.Answer.{Answer}
-use Rattle.answers.specs.declared.Answer.TheVariants.{Accepted, Refused}
+use Rattle.answers.specs.Answers.{Answer}
+use Rattle.std.specs.declared.result.Result.TheVariants.{Ok, Err}
 use Rattle.answers.specs.declared.Refusal.TheVariants.{BadLayout, NotRising}
 use Rattle.answers.specs.Answers.{◌else◌, Outcome, in_order, refuse, accept, write}
 use Rattle.answers.specs.Laws.{Passed}
@@ -43,7 +43,7 @@ ungroup_page page k v room h =
     ∙ ap (λ (l : List Slot). write (pieces l) room) (form_slots (slots_of page) (page_good page k v) (page_few page k v))
     ∙ page_again page k v.0 room h
 
-module _ (page : Bytes) (room n : ℕ) (e : (group_outcome page room).answer ≡ Accepted n) where
+module _ (page : Bytes) (room n : ℕ) (e : (group_outcome page room).answer ≡ Ok n) where
   found : Passed (keeps_layout page else BadLayout ∷ rises page else NotRising ∷ []) × (group_outcome page room ≡ accept (form_pieces (slots_of page)))
   unfolding group_outcome
   found = written (keeps_layout page else BadLayout ∷ rises page else NotRising ∷ []) (form_pieces (slots_of page)) room n e
@@ -55,12 +55,12 @@ module _ (page : Bytes) (room n : ℕ) (e : (group_outcome page room).answer ≡
   grouped_bytes : (group_outcome page room).bytes ≡ form_bytes (grouped (slots_of page))
   grouped_bytes = ap (λ (o : Outcome). o.bytes) found.1 ∙ form_flat (slots_of page)
 
-pub ungroup_grouped : (page : Bytes) → Octets page → (room n : ℕ) → (group_outcome page room).answer ≡ Accepted n → (room' : ℕ)
+pub ungroup_grouped : (page : Bytes) → Octets page → (room n : ℕ) → (group_outcome page room).answer ≡ Ok n → (room' : ℕ)
     → length page ≤ room' → ungroup_outcome (group_outcome page room).bytes room' ≡ gives_back page
 ungroup_grouped page k room n e room' h =
     ap (λ (s : Bytes). ungroup_outcome s room') (grouped_bytes page room n e) ∙ ungroup_page page k (grouped_page page room n e) room' h
 
-pub group_ungrouped : (form : Bytes) → Octets form → (room n : ℕ) → (ungroup_outcome form room).answer ≡ Accepted n → (room' : ℕ)
+pub group_ungrouped : (form : Bytes) → Octets form → (room n : ℕ) → (ungroup_outcome form room).answer ≡ Ok n → (room' : ℕ)
     → length form ≤ room' → group_outcome (ungroup_outcome form room).bytes room' ≡ gives_form form
 unfolding ungroup_outcome group_outcome
 group_ungrouped form k room n e room' h =
@@ -71,7 +71,7 @@ group_ungrouped form k room n e room' h =
     ap (λ (o : Outcome). group_outcome o.bytes room') w.1
     ∙ passed refuse (write (form_pieces (slots_of (page_of form))) room') (keeps_layout (page_of form) else BadLayout ∷ rises (page_of form) else NotRising ∷ []) (v.0, (v.1, tt))
     ∙ form_writes (slots_of (page_of form)) room' (rw b h)
-    ∙ (λ i. record { answer = Accepted (length (b i)); bytes = b i })
+    ∙ (λ i. record { answer = Ok (length (b i)); bytes = b i })
 
 -- ── edits agree with the page ──
 
@@ -99,14 +99,14 @@ module _ (page slot : Bytes) (k : Octets page) (v : IsPage page) (room : ℕ) wh
 -- ── and what they have written stands for the edited page ──
 
 -- an edit whose page was grouped again was accepted, and the form of its page is written
-edit_accepted : (x : Outcome) (room n : ℕ) → (regroup x room).answer ≡ Accepted n
-    → ((m : ℕ) × (x.answer ≡ Accepted m)) × ((regroup x room).bytes ≡ form_bytes (grouped (slots_of x.bytes)))
+edit_accepted : (x : Outcome) (room n : ℕ) → (regroup x room).answer ≡ Ok n
+    → ((m : ℕ) × (x.answer ≡ Ok m)) × ((regroup x room).bytes ≡ form_bytes (grouped (slots_of x.bytes)))
 edit_accepted x room n e = go x.answer e
   where
-    go : (a : Answer) → (regrouped a x.bytes room).answer ≡ Accepted n
-        → ((m : ℕ) × (a ≡ Accepted m)) × ((regrouped a x.bytes room).bytes ≡ form_bytes (grouped (slots_of x.bytes)))
-    go (Refused r) e = no_answer r n e
-    go (Accepted m) e =
+    go : (a : Answer) → (regrouped a x.bytes room).answer ≡ Ok n
+        → ((m : ℕ) × (a ≡ Ok m)) × ((regrouped a x.bytes room).bytes ≡ form_bytes (grouped (slots_of x.bytes)))
+    go (Err r) e = no_answer r n e
+    go (Ok m) e =
         let l = slots_of x.bytes in
         ((m, refl), ap (λ (o : Outcome). o.bytes) (write_accepted (form_pieces l) room n e) ∙ form_flat l)
 
@@ -116,17 +116,17 @@ record Edited (x : Outcome) : Type 0 where
   page : IsPage x.bytes
   whole : x ≡ gives_back x.bytes
 
-edited : (x : Outcome) (l : List Slot) → x ≡ accept (pieces l) → every is_slot l ≡ true → IsPage x.bytes → Edited x
+edited : (x : Outcome) (l : List Slot) → x ≡ accept (pieces l) → list_all is_slot l ≡ true → IsPage x.bytes → Edited x
 edited x l q e v =
     let c : length (pieces l) ≡ length (slots_of (flatten (pieces l))) = length-map l slot_bytes ∙ sym (ap length (slots_back l e)) in
     record {
       octets = rw q (written_octets l e);
       page = v;
-      whole = q ∙ (λ i. record { answer = Accepted (c i); bytes = flatten (pieces l) }) ∙ sym (ap (λ (o : Outcome). gives_back o.bytes) q);
+      whole = q ∙ (λ i. record { answer = Ok (c i); bytes = flatten (pieces l) }) ∙ sym (ap (λ (o : Outcome). gives_back o.bytes) q);
     }
 
-edit_back : (form : Bytes) (x : Outcome) (room n : ℕ) → ((m : ℕ) → x.answer ≡ Accepted m → Edited x)
-    → (in_order (form_tests form) refuse (regroup x room)).answer ≡ Accepted n
+edit_back : (form : Bytes) (x : Outcome) (room n : ℕ) → ((m : ℕ) → x.answer ≡ Ok m → Edited x)
+    → (in_order (form_tests form) refuse (regroup x room)).answer ≡ Ok n
     → ungroup_outcome (in_order (form_tests form) refuse (regroup x room)).bytes ample ≡ x
 edit_back form x room n f e =
     let a = accepted_passes (regroup x room) n (form_tests form) e in
@@ -138,25 +138,25 @@ edit_back form x room n f e =
     ∙ sym v.whole
 
 module _ (page slot : Bytes) (po : Octets page) (so : Octets slot) (room m : ℕ) where
-  insert_edited : (insert_outcome page slot room).answer ≡ Accepted m → Edited (insert_outcome page slot room)
+  insert_edited : (insert_outcome page slot room).answer ≡ Ok m → Edited (insert_outcome page slot room)
   insert_edited a =
       edited (insert_outcome page slot room) (placed (slot_of slot) (slots_of page)) (inserts page slot room m a).outcome
       (insert_good page slot po so room m a) (insert_page page slot po so room m a)
 
-  remove_edited : (remove_outcome page slot room).answer ≡ Accepted m → Edited (remove_outcome page slot room)
+  remove_edited : (remove_outcome page slot room).answer ≡ Ok m → Edited (remove_outcome page slot room)
   remove_edited a =
       edited (remove_outcome page slot room) (without (name_of slot) (slots_of page)) (removes page slot room m a).outcome
       (remove_good page slot po so room m a) (remove_page page slot po so room m a)
 
 module _ (form slot : Bytes) (so : Octets slot) (room n : ℕ) where
-  pub inserted : (insert_form_outcome form slot room).answer ≡ Accepted n
+  pub inserted : (insert_form_outcome form slot room).answer ≡ Ok n
       → ungroup_outcome (insert_form_outcome form slot room).bytes ample ≡ insert_outcome (page_of form) slot ample
   unfolding insert_form_outcome
   inserted e =
       let p = (accepted_passes (regroup (insert_outcome (page_of form) slot ample) room) n (form_tests form) e).0 in
       edit_back form (insert_outcome (page_of form) slot ample) room n (insert_edited (page_of form) slot (page_of_octets form p) so ample) e
 
-  pub removed : (remove_form_outcome form slot room).answer ≡ Accepted n
+  pub removed : (remove_form_outcome form slot room).answer ≡ Ok n
       → ungroup_outcome (remove_form_outcome form slot room).bytes ample ≡ remove_outcome (page_of form) slot ample
   unfolding remove_form_outcome
   removed e =

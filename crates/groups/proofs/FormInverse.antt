@@ -9,7 +9,7 @@ use Prim.Native.Nat.{ℕ, zero, suc}
 use lib.ListN.{length}
 use Rattle.names.specs.Names.{fits, is_name}
 use Rattle.numbers.specs.Bytes.{Bytes, Octets}
-use Rattle.numbers.specs.Lists.{every}
+use Rattle.std.specs.List.{list_all}
 use Rattle.numbers.proofs.Bools.{and_0, and_1}
 use Rattle.numbers.proofs.Lists.{flat, flat_none}
 use Rattle.numbers.proofs.Octets.{AllBytes, nil, join, all_octets}
@@ -40,12 +40,12 @@ form_append (g ∷ gs) hs =
     ∙ sym (append_assoc (group_bytes g) (form_bytes gs) (form_bytes hs))
     ∙ ap (λ (b : Bytes). b ++ form_bytes hs) (sym (form_more g gs))
 
-form_all : (gs : List Group) → every is_group gs ≡ true → AllBytes (form_bytes gs)
+form_all : (gs : List Group) → list_all is_group gs ≡ true → AllBytes (form_bytes gs)
 form_all [] e = rw form_none nil
 form_all (g ∷ gs) e =
-    rw (form_more g gs) (join (group_all g (and_0 (is_group g) (every is_group gs) e)) (form_all gs (and_1 (is_group g) (every is_group gs) e)))
+    rw (form_more g gs) (join (group_all g (and_0 (is_group g) (list_all is_group gs) e)) (form_all gs (and_1 (is_group g) (list_all is_group gs) e)))
 
-pub written_octets : (gs : List Group) → every is_group gs ≡ true → Octets (form_bytes gs)
+pub written_octets : (gs : List Group) → list_all is_group gs ≡ true → Octets (form_bytes gs)
 written_octets gs e = all_octets (form_all gs e)
 
 -- ── and back ──
@@ -60,15 +60,15 @@ module _ (r : Bytes) where
   cons g gs = ap (λ (b : Bytes). b ++ r) (form_more g gs) ∙ append_assoc (group_bytes g) (form_bytes gs) r
 
   -- groups written before r: they, and then those of r
-  pub groups_before : (gs : List Group) → every is_group gs ≡ true → groups_in (form_bytes gs ++ r) ≡ gs ++ groups_in r
+  pub groups_before : (gs : List Group) → list_all is_group gs ≡ true → groups_in (form_bytes gs ++ r) ≡ gs ++ groups_in r
   groups_before [] e = ap (λ (b : Bytes). groups_in (b ++ r)) form_none
   groups_before (g ∷ gs) e =
       let t = form_bytes gs ++ r in
-      let h = and_0 (is_group g) (every is_group gs) e in
+      let h = and_0 (is_group g) (list_all is_group gs) e in
       ap groups_in (cons g gs)
       ∙ groups_turn (group_bytes g ++ t) (stands_back g t)
       ∙ (λ i. group_back g t (first_named g h) i ∷ groups_in (after_back g t i))
-      ∙ ap (λ (l : List Group). g ∷ l) (groups_before gs (and_1 (is_group g) (every is_group gs) e))
+      ∙ ap (λ (l : List Group). g ∷ l) (groups_before gs (and_1 (is_group g) (list_all is_group gs) e))
 
   pub rest_before : (gs : List Group) → rest_in (form_bytes gs ++ r) ≡ rest_in r
   rest_before [] = ap (λ (b : Bytes). rest_in (b ++ r)) form_none
@@ -76,16 +76,16 @@ module _ (r : Bytes) where
       let t = form_bytes gs ++ r in
       ap rest_in (cons g gs) ∙ rest_turn (group_bytes g ++ t) (stands_back g t) ∙ ap rest_in (after_back g t) ∙ rest_before gs
 
-pub read_back : (gs : List Group) → every is_group gs ≡ true → groups_in (form_bytes gs) ≡ gs
+pub read_back : (gs : List Group) → list_all is_group gs ≡ true → groups_in (form_bytes gs) ≡ gs
 read_back gs e = ap groups_in (sym (append-nil (form_bytes gs))) ∙ groups_before [] gs e ∙ append-nil gs
 
 rest_back : (gs : List Group) → rest_in (form_bytes gs) ≡ []
 rest_back gs = ap rest_in (sym (append-nil (form_bytes gs))) ∙ rest_before [] gs
 
-pub written_form : (gs : List Group) → every is_group gs ≡ true → longest gs ≡ true → keeps_form (form_bytes gs) ≡ true
+pub written_form : (gs : List Group) → list_all is_group gs ≡ true → longest gs ≡ true → keeps_form (form_bytes gs) ≡ true
 unfolding keeps_form
 written_form gs e h =
-    (λ i. nothing (rest_back gs i) && every is_group (read_back gs e i) && longest (read_back gs e i)) ∙ (λ i. e i && h i)
+    (λ i. nothing (rest_back gs i) && list_all is_group (read_back gs e i) && longest (read_back gs e i)) ∙ (λ i. e i && h i)
 
 -- ── from bytes and back ──
 
@@ -111,14 +111,14 @@ form_there s k = there (length s) s k
 -- what the test of a form has found
 pub record Kept (s : Bytes) : Type 0 where
   pub ended : rest_in s ≡ []
-  pub good : every is_group (groups_in s) ≡ true
+  pub good : list_all is_group (groups_in s) ≡ true
   pub long : longest (groups_in s) ≡ true
 
 pub kept : (s : Bytes) → keeps_form s ≡ true → Kept s
 unfolding keeps_form
 kept s e =
     let a = nothing (rest_in s) in
-    let b = every is_group (groups_in s) in
+    let b = list_all is_group (groups_in s) in
     let c = longest (groups_in s) in
     let ab = and_0 (a && b) c e in
     record { ended = is_nothing (rest_in s) (and_0 a b ab); good = and_1 a b ab; long = and_1 (a && b) c e }
@@ -128,7 +128,7 @@ bytes_back s k e =
     sym (append-nil (form_bytes (groups_in s))) ∙ ap (λ (b : Bytes). form_bytes (groups_in s) ++ b) (sym (kept s e).ended) ∙ form_there s k
 
 pub form_exactly : (s : Bytes) → Octets s
-    → (keeps_form s ≡ true) ↔ ((gs : List Group) × (every is_group gs ≡ true) × (longest gs ≡ true) × (form_bytes gs ≡ s))
+    → (keeps_form s ≡ true) ↔ ((gs : List Group) × (list_all is_group gs ≡ true) × (longest gs ≡ true) × (form_bytes gs ≡ s))
 form_exactly s k = (
   λ h. (groups_in s, (kept s h).good, (kept s h).long, bytes_back s k h),
   λ v. sym (ap keeps_form v.3) ∙ written_form v.0 v.1 v.2,

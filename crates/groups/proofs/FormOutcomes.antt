@@ -6,9 +6,9 @@ use mathlib.Core.Bool.{Bool, true, false}
 use Prim.Native.Nat.{ℕ, ◌≤◌}
 use native.Mathlib.Omega.{arith}
 use lib.ListN.{length, length-map}
-use Rattle.numbers.specs.Lists.{every}
+use Rattle.std.specs.List.{list_all}
 use Rattle.slots.specs.Slots.{Slot, slot_bytes, is_slot}
-use Rattle.answers.specs.declared.Answer.TheVariants.{Accepted}
+use Rattle.std.specs.declared.result.Result.TheVariants.{Ok}
 use Rattle.answers.specs.Answers.{Test, Outcome, ask, in_order, refuse, write}
 use Rattle.answers.specs.Laws.{Passed}
 use Rattle.answers.proofs.Outcomes.{writes}
@@ -26,7 +26,7 @@ pub form_flat : (l : List Slot) → flatten (form_pieces l) ≡ form_bytes (grou
 form_flat l = flat_single (form_bytes (grouped l))
 
 pub form_writes : (l : List Slot) (room : ℕ) → length (form_bytes (grouped l)) ≤ room
-    → write (form_pieces l) room ≡ record { answer = Accepted (length (form_bytes (grouped l))); bytes = form_bytes (grouped l) }
+    → write (form_pieces l) room ≡ record { answer = Ok (length (form_bytes (grouped l))); bytes = form_bytes (grouped l) }
 form_writes l room h =
     writes (form_pieces l) room (length (form_bytes (grouped l))) (form_bytes (grouped l)) (length-map (form_bytes (grouped l)) single) (form_flat l) h
 
@@ -53,7 +53,7 @@ regroup_tests (t ∷ tests) x room = by t.passes (regroup_tests tests x room)
     by false e = refl
 
 -- and the slots that it writes, for which there is room, are those that are grouped
-pub regroup_writes : (l : List Slot) → every is_slot l ≡ true → length l ≤ max_slots → (room : ℕ)
+pub regroup_writes : (l : List Slot) → list_all is_slot l ≡ true → length l ≤ max_slots → (room : ℕ)
     → regroup (write (pieces l) ample) room ≡ write (form_pieces l) room
 regroup_writes l e h room =
     let n = written_length l e in

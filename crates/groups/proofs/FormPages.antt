@@ -12,7 +12,7 @@ use lib.ListN.{length}
 use Rattle.names.specs.Ordering.{Rising, rising}
 use Rattle.names.proofs.Laws.{rising_Rising}
 use Rattle.numbers.specs.Bytes.{Bytes, Octets}
-use Rattle.numbers.specs.Lists.{every}
+use Rattle.std.specs.List.{list_all}
 use Rattle.slots.specs.Slots.{Slot, slot_size, is_slot}
 use Rattle.answers.specs.Laws.{Passed}
 use Rattle.pages.specs.Pages.{max_slots, slots_of, name_in}
@@ -42,7 +42,7 @@ one_form s t k l e f q = sym (form_again s k e) ∙ ap (λ (x : List Slot). form
 -- what the tests of a form have found
 pub record Held (s : Bytes) : Type 0 where
   pub form : keeps_form s ≡ true
-  pub slots : every is_slot (slots_of_form s) ≡ true
+  pub slots : list_all is_slot (slots_of_form s) ≡ true
   pub order : Rising (map name_in (slots_of_form s))
   pub few : length (slots_of_form s) ≤ max_slots
 
@@ -66,7 +66,7 @@ module _ (s : Bytes) (p : Passed (form_tests s)) where
 
 -- ── to a form ──
 
-module _ (l : List Slot) (e : every is_slot l ≡ true) (h : length l ≤ max_slots) where
+module _ (l : List Slot) (e : list_all is_slot l ≡ true) (h : length l ≤ max_slots) where
   pub form_octets : Octets (form_bytes (grouped l))
   form_octets = written_octets (grouped l) (are_groups l e h)
 
@@ -82,7 +82,7 @@ module _ (l : List Slot) (e : every is_slot l ≡ true) (h : length l ≤ max_sl
 
 -- the slots of a page
 module _ (page : Bytes) (k : Octets page) (v : IsPage page) where
-  pub page_good : every is_slot (slots_of page) ≡ true
+  pub page_good : list_all is_slot (slots_of page) ≡ true
   page_good = page_slots page k v.0
 
   pub page_few : length (slots_of page) ≤ max_slots

@@ -8,11 +8,12 @@ use Prim.Native.Nat.{ℕ, zero, suc, ◌+◌, ◌*◌, ◌<◌, ◌≤◌}
 use native.Mathlib.Omega.{arith}
 use borrow.Author.Tests.{leb-true}
 use lib.ListN.{length, length-append, length-map}
-use Rattle.names.specs.Ordering.{Row, is_same, ◌<ⁿ◌, sequence, differ}
+use Rattle.names.specs.Ordering.{Row, ◌<ⁿ◌, sequence, differ}
+use Rattle.std.specs.Ordering.{is_eq}
 use Rattle.names.specs.Names.{limit, fits, is_name}
 use Rattle.names.proofs.Laws.{row_less}
 use Rattle.numbers.specs.Bytes.{Bytes, Octets}
-use Rattle.numbers.specs.Lists.{every}
+use Rattle.std.specs.List.{list_all}
 use Rattle.numbers.proofs.Bools.{and_0, and_1}
 use Rattle.slots.specs.Tuples.{tuple_size}
 use Rattle.slots.specs.Slots.{Slot, is_slot}
@@ -63,20 +64,20 @@ no_longer_than_alone (x ∷ l) =
     let c = form_length (alone x) (map alone l) in
     omega arith
 
-alone_bound : (l : List Slot) → every is_slot l ≡ true → length (form_bytes (map alone l)) ≤ length l * (group_head + tuple_size * limit + line_size)
+alone_bound : (l : List Slot) → list_all is_slot l ≡ true → length (form_bytes (map alone l)) ≤ length l * (group_head + tuple_size * limit + line_size)
 alone_bound [] e = let z = ap length form_none in omega arith
 alone_bound (x ∷ l) e =
-    let f = leb-true (length x.name) limit (and_1 (is_name x.name) (fits x.name) (slot_fits x (and_0 (is_slot x) (every is_slot l) e))) in
-    let a = alone_bound l (and_1 (is_slot x) (every is_slot l) e) in
+    let f = leb-true (length x.name) limit (and_1 (is_name x.name) (fits x.name) (slot_fits x (and_0 (is_slot x) (list_all is_slot l) e))) in
+    let a = alone_bound l (and_1 (is_slot x) (list_all is_slot l) e) in
     let b = form_length (alone x) (map alone l) in
     let c = group_length (alone x) in
     omega arith
 
 -- so of any slots, and of as many as a page may have
-pub slots_within : (l : List Slot) → every is_slot l ≡ true → length (form_bytes (grouped l)) ≤ length l * (group_head + tuple_size * limit + line_size)
+pub slots_within : (l : List Slot) → list_all is_slot l ≡ true → length (form_bytes (grouped l)) ≤ length l * (group_head + tuple_size * limit + line_size)
 slots_within l e = let a = no_longer_than_alone l in let b = alone_bound l e in omega arith
 
-pub slots_bound : (l : List Slot) → every is_slot l ≡ true → length l ≤ max_slots → length (form_bytes (grouped l)) ≤ longest_form
+pub slots_bound : (l : List Slot) → list_all is_slot l ≡ true → length l ≤ max_slots → length (form_bytes (grouped l)) ≤ longest_form
 slots_bound l e h = let a = slots_within l e in omega arith
 
 pub no_longer : (page : Bytes) → Octets page → IsPage page → length (form_bytes (grouped (slots_of page))) ≤ longest_form
@@ -93,12 +94,12 @@ unfolding bare
 names_bare [] = refl
 names_bare (a ∷ l) = ap (λ (r : List Row). a ∷ r) (names_bare l)
 
-slots_bare : (l : List Row) → every name_fits l ≡ true → every is_slot (map bare l) ≡ true
+slots_bare : (l : List Row) → list_all name_fits l ≡ true → list_all is_slot (map bare l) ≡ true
 unfolding bare
 slots_bare [] e = refl
 slots_bare (a ∷ l) e =
-    let v = and_0 (name_fits a) (every name_fits l) e in
-    λ i. (and_0 (is_name a) (fits a) v i && and_1 (is_name a) (fits a) v i) && slots_bare l (and_1 (name_fits a) (every name_fits l) e) i
+    let v = and_0 (name_fits a) (list_all name_fits l) e in
+    λ i. (and_0 (is_name a) (fits a) v i && and_1 (is_name a) (fits a) v i) && slots_bare l (and_1 (name_fits a) (list_all name_fits l) e) i
 
 -- the names are not of a run
 deep_under : (k : ℕ) → next (deep k) <ⁿ deep (suc k)
@@ -106,7 +107,7 @@ unfolding next deep step
 deep_under k = let l : k < suc k = omega arith in differ (sequence refl refl l)
 
 deep_apart : (k : ℕ) → is_next (deep k) (deep (suc k)) ≡ false
-deep_apart k = ap is_same (row_less (deep_under k))
+deep_apart k = ap is_eq (row_less (deep_under k))
 
 -- so each slot is a group
 alones : (n k : ℕ) → grouped (map bare (deeps n k)) ≡ map alone (map bare (deeps n k))
@@ -136,7 +137,7 @@ module _ (n : ℕ) (h : n ≤ max_slots) where
   abbrev slots : List Slot
   slots = map bare (deeps n 0)
 
-  many_slots : every is_slot slots ≡ true
+  many_slots : list_all is_slot slots ≡ true
   many_slots = slots_bare (deeps n 0) (deeps_fit n 0 (omega arith))
 
   many_few : length slots ≤ max_slots

@@ -9,9 +9,10 @@ use native.Mathlib.Omega.{arith}
 use borrow.Author.Tests.{leb-true, not-true}
 use lib.Dec.{leb}
 use lib.ListN.{length}
-use Rattle.names.specs.Ordering.{Row, compare_rows, is_same}
+use Rattle.names.specs.Ordering.{Row, compare_rows}
+use Rattle.std.specs.Ordering.{is_eq}
 use Rattle.names.proofs.Laws.{row_same}
-use Rattle.numbers.specs.Lists.{every}
+use Rattle.std.specs.List.{list_all}
 use Rattle.numbers.proofs.Bools.{and_0, and_1}
 use Rattle.slots.specs.Slots.{Slot}
 use Rattle.runs.specs.Runs.{next, onward, is_next}
@@ -20,7 +21,7 @@ use Rattle.groups.specs.Groups.{Group, size, run, slots_in, ungrouped, alone, jo
 
 -- whether two names are the same
 abbrev pub same : Row → Row → Bool
-same a b = is_same (compare_rows a b)
+same a b = is_eq (compare_rows a b)
 
 -- ── a run ──
 
@@ -71,7 +72,7 @@ module _ (g h : Group) (hs : List Group) where
   pub glue_joins : name_after g ≡ h.first → glue (g ∷ []) (h ∷ hs) ≡ record { first = g.first; lines = g.lines ++ h.lines } ∷ hs
   glue_joins e =
       ap (λ (b : Bool). cond b (record { first = g.first; lines = g.lines ++ h.lines } ∷ hs) (g ∷ h ∷ hs))
-      (ap (λ (a : Row). same a h.first) e ∙ ap is_same (row_same h.first))
+      (ap (λ (a : Row). same a h.first) e ∙ ap is_eq (row_same h.first))
 
   pub glue_apart : apart g h ≡ true → glue (g ∷ []) (h ∷ hs) ≡ g ∷ h ∷ hs
   glue_apart e =
@@ -161,12 +162,12 @@ longest_tail : (g : Group) (gs : List Group) → longest (g ∷ gs) ≡ true →
 longest_tail g [] e = refl
 longest_tail g (h ∷ gs) e = and_1 (apart g h) (longest (h ∷ gs)) e
 
-pub regrouped_back : (gs : List Group) → every has_slot gs ≡ true → longest gs ≡ true → grouped (ungrouped gs) ≡ gs
+pub regrouped_back : (gs : List Group) → list_all has_slot gs ≡ true → longest gs ≡ true → grouped (ungrouped gs) ≡ gs
 regrouped_back [] v e = refl
 regrouped_back (g ∷ gs) v e =
-    let n = leb-true 1 (size g) (and_0 (has_slot g) (every has_slot gs) v) in
+    let n = leb-true 1 (size g) (and_0 (has_slot g) (list_all has_slot gs) v) in
     grouped_append (slots_in g) (ungrouped gs)
-    ∙ (λ i. glue (grouped_run g.first g.lines n i) (regrouped_back gs (and_1 (has_slot g) (every has_slot gs) v) (longest_tail g gs e) i))
+    ∙ (λ i. glue (grouped_run g.first g.lines n i) (regrouped_back gs (and_1 (has_slot g) (list_all has_slot gs) v) (longest_tail g gs e) i))
     ∙ glue_longest g gs e
 
 -- parts of groups that are longest

@@ -10,7 +10,7 @@ use native.Mathlib.Omega.{arith}
 use borrow.Author.Tests.{le-leb, leb-true}
 use lib.ListN.{length, take, drop, get_or, length-append}
 use Rattle.numbers.specs.Bytes.{Bytes, Octets, at32, bytes32}
-use Rattle.numbers.specs.Lists.{every}
+use Rattle.std.specs.List.{list_all}
 use Rattle.numbers.proofs.Bools.{and_0, and_1}
 use Rattle.numbers.proofs.Lists.{next_to, flat, flat_none}
 use Rattle.numbers.proofs.NumberBytes.{here32, at32_past, back32}
@@ -40,11 +40,11 @@ lines_append (x ∷ l) m =
     ∙ sym (append_assoc (bytes32 x) (line_bytes l) (line_bytes m))
     ∙ ap (λ (b : Bytes). b ++ line_bytes m) (sym (lines_more x l))
 
-pub lines_all : (l : List ℕ) → every is_line l ≡ true → AllBytes (line_bytes l)
+pub lines_all : (l : List ℕ) → list_all is_line l ≡ true → AllBytes (line_bytes l)
 lines_all [] e = rw lines_none nil
 lines_all (x ∷ l) e =
-    let h = leb-true x 4294967295 (and_0 (is_line x) (every is_line l) e) in
-    rw (lines_more x l) (join (four x (omega arith)) (lines_all l (and_1 (is_line x) (every is_line l) e)))
+    let h = leb-true x 4294967295 (and_0 (is_line x) (list_all is_line l) e) in
+    rw (lines_more x l) (join (four x (omega arith)) (lines_all l (and_1 (is_line x) (list_all is_line l) e)))
 
 -- after the bytes w they are read back
 pub lines_back : (w : Bytes) (l : List ℕ) (r : Bytes) → lines_at (w ++ (line_bytes l ++ r)) (length w) (length l) ≡ l
@@ -75,7 +75,7 @@ here_lines s k p (suc n) h =
     ∙ next_to s p line_size (line_size * n)
     ∙ ap (λ (j : ℕ). take j (drop p s)) e
 
-pub lines_u32 : (s : Bytes) → Octets s → (p n : ℕ) → every is_line (lines_at s p n) ≡ true
+pub lines_u32 : (s : Bytes) → Octets s → (p n : ℕ) → list_all is_line (lines_at s p n) ≡ true
 lines_u32 s k p zero = refl
 lines_u32 s k p (suc n) = λ i. le-leb (at32 s p) 4294967295 (omega (arith, fits32 s p k)) i && lines_u32 s k (p + line_size) n i
 

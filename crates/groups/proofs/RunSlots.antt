@@ -12,7 +12,7 @@ use lib.IntN.{pos}
 use lib.ListN.{length, get_or}
 use Rattle.names.specs.Ordering.{Row, Rising, none, one, more}
 use Rattle.names.specs.Names.{limit, fits, is_name}
-use Rattle.numbers.specs.Lists.{every}
+use Rattle.std.specs.List.{list_all}
 use Rattle.numbers.proofs.Bools.{and_0, and_1, never, yes_no}
 use Rattle.slots.specs.Slots.{Slot, is_slot}
 use Rattle.pages.specs.Pages.{name_in}
@@ -57,32 +57,32 @@ module _ (x : Slot) (e : is_slot x ≡ true) where
   slot_fits = λ i. and_1 (is_line x.line) (is_name x.name) (and_0 line_named (fits x.name) e) i && and_1 line_named (fits x.name) e i
 
 -- the line numbers of a run of slots, and its first name
-pub run_lines : (a : Row) (l : List ℕ) → every is_slot (run a l) ≡ true → every is_line l ≡ true
+pub run_lines : (a : Row) (l : List ℕ) → list_all is_slot (run a l) ≡ true → list_all is_line l ≡ true
 run_lines a [] e = refl
 run_lines a (x ∷ l) e =
     let s : Slot = record { line = x; name = a } in
-    λ i. slot_line s (and_0 (is_slot s) (every is_slot (run (next a) l)) e) i && run_lines (next a) l (and_1 (is_slot s) (every is_slot (run (next a) l)) e) i
+    λ i. slot_line s (and_0 (is_slot s) (list_all is_slot (run (next a) l)) e) i && run_lines (next a) l (and_1 (is_slot s) (list_all is_slot (run (next a) l)) e) i
 
-pub run_first : (a : Row) (l : List ℕ) → 1 ≤ length l → every is_slot (run a l) ≡ true → name_fits a ≡ true
+pub run_first : (a : Row) (l : List ℕ) → 1 ≤ length l → list_all is_slot (run a l) ≡ true → name_fits a ≡ true
 run_first a [] h e = absurd (omega arith)
 run_first a (x ∷ l) h e =
     let s : Slot = record { line = x; name = a } in
-    slot_fits s (and_0 (is_slot s) (every is_slot (run (next a) l)) e)
+    slot_fits s (and_0 (is_slot s) (list_all is_slot (run (next a) l)) e)
 
 -- the last name's offset is at most 2147483646, where the first's is n
-pub run_within : (a : Row) (l : List ℕ) {n : ℕ} → last_offset a ≡ pos n → 1 ≤ length l → every is_slot (run a l) ≡ true → n + length l ≤ 2147483647
+pub run_within : (a : Row) (l : List ℕ) {n : ℕ} → last_offset a ≡ pos n → 1 ≤ length l → list_all is_slot (run a l) ≡ true → n + length l ≤ 2147483647
 run_within a [] f h e = absurd (omega arith)
 run_within a (x ∷ []) f h e =
     let v = run_first a (x ∷ []) (omega arith) e in
     omega (arith, onward_named 0 a f (and_0 (is_name a) (fits a) v))
 run_within a (x ∷ y ∷ l) f h e =
     let s : Slot = record { line = x; name = a } in
-    let r = run_within (next a) (y ∷ l) (onward_offset 1 a f) (omega arith) (and_1 (is_slot s) (every is_slot (run (next a) (y ∷ l))) e) in
+    let r = run_within (next a) (y ∷ l) (onward_offset 1 a f) (omega arith) (and_1 (is_slot s) (list_all is_slot (run (next a) (y ∷ l))) e) in
     omega arith
 
 -- and so they are slots
-pub run_good : (a : Row) (l : List ℕ) {n : ℕ} → last_offset a ≡ pos n → name_fits a ≡ true → every is_line l ≡ true → n + length l ≤ 2147483647
-    → every is_slot (run a l) ≡ true
+pub run_good : (a : Row) (l : List ℕ) {n : ℕ} → last_offset a ≡ pos n → name_fits a ≡ true → list_all is_line l ≡ true → n + length l ≤ 2147483647
+    → list_all is_slot (run a l) ≡ true
 run_good a [] f v e h = refl
 run_good a (x ∷ []) f v e h =
     λ i. and_0 (is_line x) true e i && and_0 (is_name a) (fits a) v i && and_1 (is_name a) (fits a) v i && true
@@ -91,15 +91,15 @@ run_good a (x ∷ y ∷ l) f v e h =
     let fit = and_1 (is_name a) (fits a) v in
     let w : length (next a) ≤ limit = omega (arith, next_length a, leb-true (length a) limit fit) in
     let next_fits : name_fits (next a) ≡ true = λ i. onward_name 1 a named f (omega arith) i && le-leb (length (next a)) limit w i in
-    let rest = run_good (next a) (y ∷ l) (onward_offset 1 a f) next_fits (and_1 (is_line x) (every is_line (y ∷ l)) e) (omega arith) in
-    λ i. and_0 (is_line x) (every is_line (y ∷ l)) e i && named i && fit i && rest i
+    let rest = run_good (next a) (y ∷ l) (onward_offset 1 a f) next_fits (and_1 (is_line x) (list_all is_line (y ∷ l)) e) (omega arith) in
+    λ i. and_0 (is_line x) (list_all is_line (y ∷ l)) e i && named i && fit i && rest i
 
 -- a first name that is one: the line numbers and the last offset decide
 pub run_exactly : (a : Row) (l : List ℕ) {n : ℕ} → last_offset a ≡ pos n → name_fits a ≡ true → 1 ≤ length l
-    → every is_slot (run a l) ≡ every is_line l && leb (n + length l) 2147483647
-run_exactly a l {n} f v h = by (every is_line l) refl (leb (n + length l) 2147483647) refl
+    → list_all is_slot (run a l) ≡ list_all is_line l && leb (n + length l) 2147483647
+run_exactly a l {n} f v h = by (list_all is_line l) refl (leb (n + length l) 2147483647) refl
   where
-    by : (b : Bool) → every is_line l ≡ b → (c : Bool) → leb (n + length l) 2147483647 ≡ c → every is_slot (run a l) ≡ b && c
+    by : (b : Bool) → list_all is_line l ≡ b → (c : Bool) → leb (n + length l) 2147483647 ≡ c → list_all is_slot (run a l) ≡ b && c
     by true e true g = run_good a l f v e (leb-true (n + length l) 2147483647 g)
     by true e false g = never _ (λ q. yes_no (le-leb (n + length l) 2147483647 (run_within a l f h q)) g)
     by false e c g = never _ (λ q. yes_no (run_lines a l q) e)

@@ -5,8 +5,8 @@ use mathlib.Core.List.{List, [], ◌∷◌, map, flatten}
 use Rattle.names.specs.Ordering.{rising}
 use Rattle.numbers.specs.Bytes.{Bytes}
 use Rattle.slots.specs.Slots.{Slot, slot_size}
-use Rattle.answers.specs.declared.Answer.{Answer}
-use Rattle.answers.specs.declared.Answer.TheVariants.{Accepted, Refused}
+use Rattle.answers.specs.Answers.{Answer}
+use Rattle.std.specs.declared.result.Result.TheVariants.{Ok, Err}
 use Rattle.answers.specs.declared.Refusal.TheVariants.{BadLayout, NotRising, Full, Malformed}
 use Rattle.answers.specs.Answers.{Test, ◌else◌, Outcome, in_order, refuse, write, outcome}
 use Rattle.pages.specs.Pages.{max_slots, slots_of, name_in, pieces, keeps_layout, rises}
@@ -44,8 +44,8 @@ ample = slot_size * max_slots
 
 -- what an edit of the page gives, grouped again: the edit's own refusals, and then 8 by the bytes of the form
 abbrev pub regrouped : Answer → Bytes → ℕ → Outcome
-regrouped (Refused r) page room = refuse r
-regrouped (Accepted n) page room = write (form_pieces (slots_of page)) room
+regrouped (Err r) page room = refuse r
+regrouped (Ok n) page room = write (form_pieces (slots_of page)) room
 
 abbrev pub regroup : Outcome → ℕ → Outcome
 regroup edited room = regrouped edited.answer edited.bytes room

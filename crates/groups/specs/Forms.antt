@@ -4,7 +4,7 @@ use Rattle.std.specs.Prelude.{ℕ, zero, suc, ◌+◌, ◌*◌, Bool, cond, ◌&
 use mathlib.Core.List.{List, [], ◌∷◌, ◌++◌, map, flatten}
 use Rattle.names.specs.Names.{limit}
 use Rattle.numbers.specs.Bytes.{Bytes, at16, at32, bytes16, bytes32}
-use Rattle.numbers.specs.Lists.{every}
+use Rattle.std.specs.List.{list_all}
 use Rattle.slots.specs.Tuples.{tuple_size}
 use Rattle.slots.specs.Slots.{Slot}
 use Rattle.pages.specs.Pages.{max_slots}
@@ -82,7 +82,7 @@ slots_of_form s = ungrouped (groups_in s)
 
 -- "15 for a form that is malformed, has a length of 0 or isn't longest"
 unfoldable pub keeps_form : Bytes → Bool
-keeps_form s = nothing (after_groups (length s) s) && every is_group (groups_in s) && longest (groups_in s)
+keeps_form s = nothing (after_groups (length s) s) && list_all is_group (groups_in s) && longest (groups_in s)
 
 -- of a group of one slot whose name has as many tuples as a name has, and of as many such groups as a page has slots
 abbrev pub group_head : ℕ

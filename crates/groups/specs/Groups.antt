@@ -2,8 +2,9 @@
 -- the first name, a length and the line numbers in order" (001, section 2.1: the paper's blocks). A page is a list of slots, its grouped
 -- form a list of groups.
 use Rattle.std.specs.Prelude.{ℕ, ◌*◌, List, [], ◌∷◌, ◌++◌, Bool, true, cond, not, ◌&&◌, length, leb}
-use Rattle.names.specs.Ordering.{Row, compare_rows, is_same}
-use Rattle.numbers.specs.Lists.{every}
+use Rattle.names.specs.Ordering.{Row, compare_rows}
+use Rattle.std.specs.Ordering.{is_eq}
+use Rattle.std.specs.List.{list_all}
 use Rattle.slots.specs.Slots.{Slot, is_slot}
 use Rattle.runs.specs.Runs.{next, onward, is_next}
 use Rattle.fields.specs.Fields.{longest_content}
@@ -53,7 +54,7 @@ name_after g = onward (size g) g.first
 
 -- the second does not go on where the first ends
 abbrev pub apart : Group → Group → Bool
-apart g h = not (is_same (compare_rows (name_after g) h.first))
+apart g h = not (is_eq (compare_rows (name_after g) h.first))
 
 -- "as long as possible": asked of neighbouring groups
 abbrev pub longest : List Group → Bool
@@ -68,4 +69,4 @@ line_size = 4
 -- a group has a slot, the numbers of its lines have room in a field, and each of its slots is one: its first name is a name of at most
 -- sixteen tuples, and no offset passes 2147483646
 abbrev pub is_group : Group → Bool
-is_group g = leb 1 (size g) && leb (line_size * size g) longest_content && every is_slot (slots_in g)
+is_group g = leb 1 (size g) && leb (line_size * size g) longest_content && list_all is_slot (slots_in g)

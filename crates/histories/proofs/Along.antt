@@ -14,7 +14,7 @@ use Rattle.numbers.specs.Bytes.{Bytes, Octets}
 use Rattle.slots.specs.Slots.{Slot, name_of, slot_of, slot_bytes}
 use Rattle.slots.proofs.RoundTrip.{kept, bytes_back}
 use Rattle.pages.specs.Pages.{parts_of, slots_of, name_in, names_of, keeps_layout, rises}
-use Rattle.answers.specs.declared.Answer.TheVariants.{Accepted}
+use Rattle.std.specs.declared.result.Result.TheVariants.{Ok}
 use Rattle.pages.proofs.WrittenOctets.{written_octets}
 use Rattle.edits.specs.Edits.{placed, without, insert_outcome, remove_outcome}
 use Rattle.edits.proofs.Books.{in_placed, in_without, inserts, removes, insert_good, inserted_slots, insert_page, remove_good, removed_slots, remove_page}
@@ -59,7 +59,7 @@ module _ {page log : Bytes} {author : Author} {edited : Bytes} {old added : List
 -- ── along the edits ──
 
 module _ (page log : Bytes) (author : Author) (po : Octets page) (nm : author.node ≤ 65535) (sm : author.sequence ≤ 4294967295) where
-  start : (room n : ℕ) → (rename_outcome page log author room).answer ≡ Accepted n → Along page log author (rename_outcome page log author room).bytes (parts_of page) []
+  start : (room n : ℕ) → (rename_outcome page log author room).answer ≡ Ok n → Along page log author (rename_outcome page log author room).bytes (parts_of page) []
   start room n e =
       let i = renames page log author room n e in
       let p = rename_page page log author nm sm po room n e in
@@ -78,7 +78,7 @@ module _ (page log : Bytes) (author : Author) (po : Octets page) (nm : author.no
       }
 
   module _ (edited : Bytes) (old added : List Bytes) (b : Along page log author edited old added) (slot : Bytes) (room n : ℕ) (so : Octets slot) where
-    more : (insert_outcome edited slot room).answer ≡ Accepted n → Along page log author (insert_outcome edited slot room).bytes old (slot ∷ added)
+    more : (insert_outcome edited slot room).answer ≡ Ok n → Along page log author (insert_outcome edited slot room).bytes old (slot ∷ added)
     more e =
         let x = slot_of slot in
         let l = slots_of edited in
@@ -104,7 +104,7 @@ module _ (page log : Bytes) (author : Author) (po : Octets page) (nm : author.no
         further (was_added o m q) = was_added o (In.tail m) q
 
     less :
-        (remove_outcome edited slot room).answer ≡ Accepted n →
+        (remove_outcome edited slot room).answer ≡ Ok n →
         Along page log author (remove_outcome edited slot room).bytes (others (renamed_as log author) (name_of slot) old) (others name_of (name_of slot) added)
     less e =
         let a = name_of slot in

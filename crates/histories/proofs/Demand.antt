@@ -20,11 +20,11 @@ use Rattle.name_renames.proofs.Gaps.{MarkerFree}
 use Rattle.name_renames.proofs.Backward.{take_back_rising}
 use Rattle.name_renames.proofs.Validity.{valid_nonempty}
 use Rattle.numbers.specs.Bytes.{Bytes, Octets}
-use Rattle.numbers.specs.Lists.{every}
+use Rattle.std.specs.List.{list_all}
 use Rattle.slots.specs.Slots.{Slot, name_of, slot_of, slot_bytes}
 use Rattle.answers.specs.Answers.{Outcome, accept}
 use Rattle.pages.specs.Pages.{parts_of, slots_of, name_in, names_of, pieces, keeps_layout}
-use Rattle.answers.specs.declared.Answer.TheVariants.{Accepted}
+use Rattle.std.specs.declared.result.Result.TheVariants.{Ok}
 use Rattle.pages.proofs.RoundTrip.{page_slots, written_length}
 use Rattle.page_renames.specs.Renames.{carry, carried, all_fit, take_back_outcome}
 use Rattle.one_name.proofs.CheckedLog.{logged}
@@ -75,7 +75,7 @@ module _
   abbrev marks : List Bytes
   marks = parts_of log ++ old ++ added
 
-  module _ (u : every unmarked_slot marks ≡ true) where
+  module _ (u : list_all unmarked_slot marks ≡ true) where
     each : (slot : Bytes) → In slot marks → Valid (name_of slot) → MarkerFree (name_of slot)
     each slot m v = unmarked_free v (in_all (all_every unmarked_slot (λ b e. e) marks u) m)
 
@@ -104,7 +104,7 @@ module _
         let r = rising_Rising (names_of edited) w.rising in
         Rising_rising (back_rising author (names_of log) l.some l.rising (page_valid log l.layout) (log_free l.layout) edited_free r)
 
-  marked : (b : Bool) → every unmarked_slot marks ≡ b → rising (names_back log author edited) ≡ false → Marked marks
+  marked : (b : Bool) → list_all unmarked_slot marks ≡ b → rising (names_back log author edited) ≡ false → Marked marks
   marked true u e = yes_no (no_meeting u) e
   marked false u e = some_marked marks u
 
@@ -132,7 +132,7 @@ module _
             let s = Memᴰ.of_map name_in (slots_of edited) n.1 in
             let d = too_deep_lem (w.line s.0 s.1) (ap (λ (a : Row). fits (g a)) s.2 ∙ ap fits n.2 ∙ t.2) in
             too_deep (is ∙ rw x) d.0 d.1 (leb-false (length (taken_back_as log author d.0)) limit d.2)
-        go true false c x y z = meeting (is ∙ rw (x, y)) (marked (every unmarked_slot marks) refl y) (not_rising (names_back log author edited) y)
+        go true false c x y z = meeting (is ∙ rw (x, y)) (marked (list_all unmarked_slot marks) refl y) (not_rising (names_back log author edited) y)
         go true true false x y z =
             let good = carried_good g edited w.octets w.layout (back_valid edited log author nm sm edited_asked) x in
             let n = written_length (carried g (slots_of edited)) good in
@@ -140,7 +140,7 @@ module _
         go true true true x y z =
             let n = length-map (carried g (slots_of edited)) slot_bytes ∙ length-map (slots_of edited) (carry g) in
             let o : take_back_outcome edited log author room ≡ accept written = is ∙ rw (x, y, z) in
-            let a : (take_back_outcome edited log author room).answer ≡ Accepted (length (slots_of edited)) = ap (λ (r : Outcome). r.answer) o ∙ ap Accepted n in
+            let a : (take_back_outcome edited log author room).answer ≡ Ok (length (slots_of edited)) = ap (λ (r : Outcome). r.answer) o ∙ ap Ok n in
             restored a (is_restored w po nm sm room a)
 
 pub demand3 : Demand3

@@ -11,13 +11,14 @@ use Prim.Native.Nat.{ℕ, zero, suc, ◌<◌}
 use native.Mathlib.Nat.{le_of_suc-le-suc, not-suc-le-zero}
 use native.Mathlib.Omega.{arith}
 use lib.ListN.{length, get_or}
-use Rattle.names.specs.declared.Order.{Order}
-use Rattle.names.specs.Ordering.{Row, compare_rows, is_less, is_same, ◌<ⁿ◌}
+use Rattle.std.specs.declared.cmp.Ordering.{Ordering}
+use Rattle.names.specs.Ordering.{Row, compare_rows, ◌<ⁿ◌}
+use Rattle.std.specs.Ordering.{is_lt, is_eq}
 use Rattle.numbers.proofs.Bools.{yes_no}
 use Rattle.names.proofs.Laws.{Tri, below, level, above, tri_n, <ⁿ_irrefl}
 use Rattle.name_renames.proofs.Lists.{All, nil, cons}
 use Rattle.numbers.specs.Bytes.{Bytes}
-use Rattle.numbers.specs.Lists.{every}
+use Rattle.std.specs.List.{list_all}
 use Rattle.slots.specs.Slots.{Slot}
 use Rattle.pages.specs.Pages.{name_in}
 use Rattle.edits.specs.Edits.{placed, without}
@@ -53,12 +54,12 @@ fixed f (y ∷ l) e m =
     let t : map f l ≡ l = cc in
     elim (Memᴰ.cases_cons m) [ inl q ↦ ap f q ∙ h ∙ sym q | inr k ↦ fixed f l t k ]
 
-pub some_not : {A : Type 0} (f : A → Bool) (l : List A) → every f l ≡ false → (x : A) × In x l × (f x ≡ false)
+pub some_not : {A : Type 0} (f : A → Bool) (l : List A) → list_all f l ≡ false → (x : A) × In x l × (f x ≡ false)
 some_not f [] e = yes_no refl e
 some_not {A} f (x ∷ l) e = go (f x) refl e (λ q. some_not f l q)
   where
     go :
-        (b : Bool) → f x ≡ b → b && every f l ≡ false → (every f l ≡ false → (y : A) × In y l × (f y ≡ false)) →
+        (b : Bool) → f x ≡ b → b && list_all f l ≡ false → (list_all f l ≡ false → (y : A) × In y l × (f y ≡ false)) →
         (y : A) × In y (x ∷ l) × (f y ≡ false)
     go true q e r = let t = r e in (t.0, In.tail t.1, t.2)
     go false q e r = (x, In.head refl, q)
@@ -67,7 +68,7 @@ some_not {A} f (x ∷ l) e = go (f x) refl e (λ q. some_not f l q)
 
 pub in_placed_self : (x : Slot) (l : List Slot) → In x (placed x l)
 in_placed_self x [] = In.head refl
-in_placed_self x (y ∷ l) = by (is_less (compare_rows x.name y.name)) (in_placed_self x l)
+in_placed_self x (y ∷ l) = by (is_lt (compare_rows x.name y.name)) (in_placed_self x l)
   where
     by : (b : Bool) → In x (placed x l) → In x (cond b (x ∷ y ∷ l) (y ∷ placed x l))
     by true m = In.head refl
@@ -75,7 +76,7 @@ in_placed_self x (y ∷ l) = by (is_less (compare_rows x.name y.name)) (in_place
 
 pub placed_in : (x : Slot) (l : List Slot) {z : Slot} → In z (placed x l) → (z ≡ x) ⊎ In z l
 placed_in x [] m = Memᴰ.cases_cons m
-placed_in x (y ∷ l) {z} m = by (is_less (compare_rows x.name y.name)) (λ k. placed_in x l k) m
+placed_in x (y ∷ l) {z} m = by (is_lt (compare_rows x.name y.name)) (λ k. placed_in x l k) m
   where
     by : (b : Bool) → (In z (placed x l) → (z ≡ x) ⊎ In z l) → In z (cond b (x ∷ y ∷ l) (y ∷ placed x l)) → (z ≡ x) ⊎ In z (y ∷ l)
     by true f k = Memᴰ.cases_cons k
@@ -86,17 +87,17 @@ placed_in x (y ∷ l) {z} m = by (is_less (compare_rows x.name y.name)) (λ k. p
 
 -- ── without the slot of a name ──
 
-differs : {a b : Row} (o : Order) → Tri ◌<ⁿ◌ a b o → is_same o ≡ false → ¬ (a ≡ b)
+differs : {a b : Row} (o : Ordering) → Tri ◌<ⁿ◌ a b o → is_eq o ≡ false → ¬ (a ≡ b)
 differs _ (below h) e q = <ⁿ_irrefl (rw q at h)
 differs _ (level h) e q = yes_no refl e
 differs _ (above h) e q = <ⁿ_irrefl (rw q at h)
 
 pub without_in : (a : Row) (l : List Slot) {z : Slot} → In z (without a l) → In z l × (¬ (z.name ≡ a))
 without_in a [] m = absurd (Memᴰ.not-nil m)
-without_in a (y ∷ l) {z} m = by (is_same (compare_rows y.name a)) refl (λ k. without_in a l k) m
+without_in a (y ∷ l) {z} m = by (is_eq (compare_rows y.name a)) refl (λ k. without_in a l k) m
   where
     by :
-        (b : Bool) → is_same (compare_rows y.name a) ≡ b → (In z (without a l) → In z l × (¬ (z.name ≡ a))) →
+        (b : Bool) → is_eq (compare_rows y.name a) ≡ b → (In z (without a l) → In z l × (¬ (z.name ≡ a))) →
         In z (cond b (without a l) (y ∷ without a l)) → In z (y ∷ l) × (¬ (z.name ≡ a))
     by true q f k = let t = f k in (In.tail t.0, t.1)
     by false q f k = elim (Memᴰ.cases_cons k) [
@@ -109,10 +110,10 @@ without_in a (y ∷ l) {z} m = by (is_same (compare_rows y.name a)) refl (λ k. 
 module _ (nameNow : Bytes → Row) (a : Row) where
   pub others_in : (l : List Bytes) {z : Bytes} → In z (others nameNow a l) → In z l × (¬ (nameNow z ≡ a))
   others_in [] m = absurd (Memᴰ.not-nil m)
-  others_in (y ∷ l) {z} m = by (is_same (compare_rows (nameNow y) a)) refl (λ k. others_in l k) m
+  others_in (y ∷ l) {z} m = by (is_eq (compare_rows (nameNow y) a)) refl (λ k. others_in l k) m
     where
       by :
-          (b : Bool) → is_same (compare_rows (nameNow y) a) ≡ b → (In z (others nameNow a l) → In z l × (¬ (nameNow z ≡ a))) →
+          (b : Bool) → is_eq (compare_rows (nameNow y) a) ≡ b → (In z (others nameNow a l) → In z l × (¬ (nameNow z ≡ a))) →
           In z (cond b (others nameNow a l) (y ∷ others nameNow a l)) → In z (y ∷ l) × (¬ (nameNow z ≡ a))
       by true q f k = let t = f k in (In.tail t.0, t.1)
       by false q f k = elim (Memᴰ.cases_cons k) [
@@ -128,8 +129,8 @@ module _ (nameNow : Bytes → Row) (a : Row) where
       step f = elim (Memᴰ.cases_cons m) [ inl e ↦ In.head e | inr k ↦ In.tail (f k) ]
 
       by :
-          (o : Order) → Tri ◌<ⁿ◌ (nameNow y) a o → (In z l → In z (others nameNow a l)) →
-          In z (cond (is_same o) (others nameNow a l) (y ∷ others nameNow a l))
+          (o : Ordering) → Tri ◌<ⁿ◌ (nameNow y) a o → (In z l → In z (others nameNow a l)) →
+          In z (cond (is_eq o) (others nameNow a l) (y ∷ others nameNow a l))
       by _ (below q) f = step f
       by _ (above q) f = step f
       by _ (level q) f = elim (Memᴰ.cases_cons m) [ inl e ↦ absurd (h (ap nameNow e ∙ q)) | inr k ↦ f k ]

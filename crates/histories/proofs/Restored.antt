@@ -12,7 +12,7 @@ use Rattle.name_renames.specs.Renaming.{take_back}
 use Rattle.numbers.specs.Bytes.{Bytes, Octets}
 use Rattle.slots.specs.Slots.{Slot, line_of, slot_of, slot_bytes}
 use Rattle.pages.specs.Pages.{parts_of, slots_of, name_in, names_of, pieces}
-use Rattle.answers.specs.declared.Answer.TheVariants.{Accepted}
+use Rattle.std.specs.declared.result.Result.TheVariants.{Ok}
 use Rattle.pages.proofs.RoundTrip.{pieces_are}
 use Rattle.page_renames.specs.Renames.{carry, carried, take_back_outcome}
 use Rattle.page_renames.proofs.Carried.{carried_names}
@@ -36,7 +36,7 @@ module _
 
   -- ── what is written ──
 
-  module _ (room : ℕ) (a : (take_back_outcome edited log author room).answer ≡ Accepted (length (slots_of edited))) where
+  module _ (room : ℕ) (a : (take_back_outcome edited log author room).answer ≡ Ok (length (slots_of edited))) where
     abbrev back : Bytes
     back = (take_back_outcome edited log author room).bytes
 

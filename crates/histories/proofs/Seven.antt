@@ -8,16 +8,17 @@ use native.Mathlib.Omega.{arith}
 use lib.Dec.{leb, eqb}
 use lib.ListN.{length}
 use Rattle.names.specs.declared.Author.{Author}
-use Rattle.names.specs.declared.Order.{Order}
-use Rattle.names.specs.Ordering.{Row, compare_rows, is_less, rising, ◌<ⁿ◌, less, equal}
+use Rattle.std.specs.declared.cmp.Ordering.{Ordering}
+use Rattle.names.specs.Ordering.{Row, compare_rows, rising, ◌<ⁿ◌, less, equal}
+use Rattle.std.specs.Ordering.{is_lt}
 use Rattle.numbers.proofs.Bools.{yes_no}
 use Rattle.names.proofs.Laws.{Tri, below, level, above, tri_n, <ⁿ_irrefl, <≤_trans, rising_Rising}
 use Rattle.name_renames.specs.Renaming.{take_back}
 use Rattle.numbers.specs.Bytes.{Bytes}
 use Rattle.answers.specs.Answers.{Outcome, number_of, ask, refuse, accept, write}
 use Rattle.pages.specs.Pages.{slots_of, names_of, pieces}
-use Rattle.answers.specs.declared.Answer.{Answer}
-use Rattle.answers.specs.declared.Answer.TheVariants.{Accepted, Refused}
+use Rattle.answers.specs.Answers.{Answer}
+use Rattle.std.specs.declared.result.Result.TheVariants.{Ok, Err}
 use Rattle.answers.specs.declared.Refusal.TheVariants.{TooDeep, NotRisingBack, Short}
 use Rattle.pages.proofs.FindByHalving.{index_below}
 use Rattle.page_renames.specs.Renames.{carried, all_fit, take_back_outcome}
@@ -32,7 +33,7 @@ not_rising [] e = yes_no refl e
 not_rising (a ∷ []) e = yes_no refl e
 not_rising (a ∷ b ∷ l) e = go (compare_rows a b) (tri_n a b) e (λ q. not_rising (b ∷ l) q)
   where
-    go : (o : Order) → Tri ◌<ⁿ◌ a b o → is_less o && rising (b ∷ l) ≡ false → (rising (b ∷ l) ≡ false → Meet (b ∷ l)) → Meet (a ∷ b ∷ l)
+    go : (o : Ordering) → Tri ◌<ⁿ◌ a b o → is_lt o && rising (b ∷ l) ≡ false → (rising (b ∷ l) ≡ false → Meet (b ∷ l)) → Meet (a ∷ b ∷ l)
     go _ (below h) q f = let t = f q in (suc t.0, omega (arith, t.1), t.2)
     go _ (level h) q f = (0, omega arith, equal (sym h))
     go _ (above h) q f = (0, omega arith, less h)
@@ -47,7 +48,7 @@ meet_rising l t = go (rising l) refl
 -- ── 7 ──
 
 -- an answer that is not 7
-not_seven : {A : Type 0} (x : Answer) → eqb (number_of x) 7 ≡ false → x ≡ Refused NotRisingBack → A
+not_seven : {A : Type 0} (x : Answer) → eqb (number_of x) 7 ≡ false → x ≡ Err NotRisingBack → A
 not_seven x h e = yes_no (ap (λ (a : Answer). eqb (number_of a) 7) e) h
 
 -- what is asked after 1, 2, 3 and 4: whether all fit, whether they rise, whether there is room
@@ -59,11 +60,11 @@ asked_last page log author room =
     let g = take_back author (names_of log) in
     ask (all_fit g page) (refuse TooDeep) (ask (rising (names_back log author page)) (refuse NotRisingBack) (write (pieces (carried g (slots_of page))) room))
 
-only_seven : (a b c : Bool) (l : List Bytes) → (answered a b c l).answer ≡ Refused NotRisingBack → (a ≡ true) × (b ≡ false)
-only_seven false b c l e = not_seven (Refused TooDeep) refl e
+only_seven : (a b c : Bool) (l : List Bytes) → (answered a b c l).answer ≡ Err NotRisingBack → (a ≡ true) × (b ≡ false)
+only_seven false b c l e = not_seven (Err TooDeep) refl e
 only_seven true false c l e = (refl, refl)
-only_seven true true false l e = not_seven (Refused Short) refl e
-only_seven true true true l e = not_seven (Accepted (length l)) refl e
+only_seven true true false l e = not_seven (Err Short) refl e
+only_seven true true true l e = not_seven (Ok (length l)) refl e
 
 pub seven : Seven
 unfolding take_back_outcome
@@ -72,7 +73,7 @@ seven =
       only = λ page log author room e.
           let g = take_back author (names_of log) in
           let l = pieces (carried g (slots_of page)) in
-          let p = (asked page log author (asked_last page log author room) (Refused NotRisingBack) refl e).1 in
+          let p = (asked page log author (asked_last page log author room) (Err NotRisingBack) refl e).1 in
           let q = only_seven (all_fit g page) (rising (names_back log author page)) (leb (length (flatten l)) room) l p in
           (q.0, not_rising (names_back log author page) q.1);
       always = λ page log author room k r l n t m.

@@ -16,7 +16,7 @@ use Rattle.name_renames.specs.Renaming.{become, case_of, first_position, rename}
 use Rattle.name_renames.proofs.Lists.{nil, cons}
 use Rattle.name_renames.proofs.Gaps.{MarkerFree}
 use Rattle.numbers.specs.Bytes.{Bytes}
-use Rattle.numbers.specs.Lists.{every}
+use Rattle.std.specs.List.{list_all}
 use Rattle.slots.specs.Slots.{name_of}
 use Rattle.one_name.specs.Markers.{unmarked}
 use Rattle.histories.specs.Demand.{Marked}
@@ -25,7 +25,7 @@ use Rattle.histories.proofs.Members.{some_not}
 abbrev pub unmarked_slot : Bytes → Bool
 unmarked_slot slot = unmarked (name_of slot)
 
-pub some_marked : (slots : List Bytes) → every unmarked_slot slots ≡ false → Marked slots
+pub some_marked : (slots : List Bytes) → list_all unmarked_slot slots ≡ false → Marked slots
 some_marked slots e =
     let s = some_not unmarked_slot slots e in
     let t = some_not (λ (t : Tuple). not (marker t)) (name_of s.0) s.2 in

@@ -9,14 +9,15 @@ use Rattle.std.specs.Prelude.{ℕ, suc, ◌*◌, ◌<◌, ◌≤◌, ◌≡◌, 
 use mathlib.Core.List.{List, [], ◌∷◌, ◌++◌, map, Memᴰ as In}
 use Rattle.names.specs.declared.Tuple.{Tuple}
 use Rattle.names.specs.declared.Author.{Author}
-use Rattle.names.specs.Ordering.{Row, compare_rows, is_same, ◌≤ⁿ◌}
+use Rattle.names.specs.Ordering.{Row, compare_rows, ◌≤ⁿ◌}
+use Rattle.std.specs.Ordering.{is_eq}
 use Rattle.names.specs.Names.{limit, marker}
 use Rattle.name_renames.specs.Renaming.{rename, take_back}
 use Rattle.numbers.specs.Bytes.{Bytes, Octets}
 use Rattle.slots.specs.Slots.{Slot, slot_size, line_of, name_of, slot_bytes}
 use Rattle.answers.specs.Answers.{Outcome, refuse}
 use Rattle.pages.specs.Pages.{parts_of, slots_of, names_of, keeps_layout, rises, is_log}
-use Rattle.answers.specs.declared.Answer.TheVariants.{Accepted, Refused}
+use Rattle.std.specs.declared.result.Result.TheVariants.{Ok, Err}
 use Rattle.answers.specs.declared.Refusal.TheVariants.{TooDeep, NotRisingBack, Short}
 use Rattle.edits.specs.Edits.{insert_outcome, remove_outcome}
 use Rattle.page_renames.specs.Renames.{all_fit, rename_outcome, take_back_outcome}
@@ -34,7 +35,7 @@ taken_back_as log author slot = take_back author (names_of log) (name_of slot)
 -- the lines that are left when that of name a goes; nameNow is the name that each has now
 abbrev pub others : (Bytes → Row) → Row → List Bytes → List Bytes
 others nameNow a [] = []
-others nameNow a (slot ∷ l) = cond (is_same (compare_rows (nameNow slot) a)) (others nameNow a l) (slot ∷ others nameNow a l)
+others nameNow a (slot ∷ l) = cond (is_eq (compare_rows (nameNow slot) a)) (others nameNow a l) (slot ∷ others nameNow a l)
 
 -- A book that was renamed, after any number of accepted inserts and removes in any order: its page; the surviving old lines, each as it
 -- stood in the page before the rename; and the surviving added lines, each as it was inserted.
@@ -42,17 +43,17 @@ module _ (page log : Bytes) (author : Author) where
   pub data Edited : Bytes → List Bytes → List Bytes → Type 0 where
     -- "let document 01's rename be accepted": page and log are valid and fresh then, and every line of the page is an old line
     renamed :
-        (room n : ℕ) → (rename_outcome page log author room).answer ≡ Accepted n →
+        (room n : ℕ) → (rename_outcome page log author room).answer ≡ Ok n →
         Edited (rename_outcome page log author room).bytes (parts_of page) []
     -- a slot is inserted: it is an added line, even where a line of that name was removed before
     inserted :
         {edited : Bytes} {old added : List Bytes} → Edited edited old added →
-        (slot : Bytes) (room n : ℕ) → Octets slot → (insert_outcome edited slot room).answer ≡ Accepted n →
+        (slot : Bytes) (room n : ℕ) → Octets slot → (insert_outcome edited slot room).answer ≡ Ok n →
         Edited (insert_outcome edited slot room).bytes old (slot ∷ added)
     -- the line of that name is removed; an old line has its new name now, and an added line its own
     removed :
         {edited : Bytes} {old added : List Bytes} → Edited edited old added →
-        (slot : Bytes) (room n : ℕ) → Octets slot → (remove_outcome edited slot room).answer ≡ Accepted n →
+        (slot : Bytes) (room n : ℕ) → Octets slot → (remove_outcome edited slot room).answer ≡ Ok n →
         Edited (remove_outcome edited slot room).bytes (others (renamed_as log author) (name_of slot) old) (others name_of (name_of slot) added)
 
 -- ── "Taking the rename back then gives .." ──
@@ -127,7 +128,7 @@ module _ (log : Bytes) (author : Author) (edited : Bytes) (old added : List Byte
   -- what taking back answers where the output has so much room: 0, 6, 8 or, where end markers are present, 7
   pub data TakenBack (room : ℕ) (x : Outcome) : Type 0 where
     -- 0, with the count of the edited page's slots
-    restored : x.answer ≡ Accepted (length (slots_of edited)) → Restored x.bytes → TakenBack room x
+    restored : x.answer ≡ Ok (length (slots_of edited)) → Restored x.bytes → TakenBack room x
     -- "It is refused only where a name needs more than eight tuples" (P8: sixteen): that of a surviving added line, since an old one's fits again
     too_deep : x ≡ refuse TooDeep → (slot : Bytes) → In slot added → limit < length (taken_back_as log author slot) → TakenBack room x
     -- "or the output is too short"
@@ -152,10 +153,10 @@ Demand3 =
 pub record Seven : Type 0 where
   pub only :
       (page log : Bytes) (author : Author) (room : ℕ) →
-      (take_back_outcome page log author room).answer ≡ Refused NotRisingBack →
+      (take_back_outcome page log author room).answer ≡ Err NotRisingBack →
       (all_fit (take_back author (names_of log)) page ≡ true) × Meet (names_back log author page)
   pub always :
       (page log : Bytes) (author : Author) (room : ℕ) →
       keeps_layout page ≡ true → rises page ≡ true → is_log log ≡ true → 1 ≤ author.node →
       all_fit (take_back author (names_of log)) page ≡ true → Meet (names_back log author page) →
-      (take_back_outcome page log author room).answer ≡ Refused NotRisingBack
+      (take_back_outcome page log author room).answer ≡ Err NotRisingBack

@@ -15,11 +15,11 @@ use Rattle.names.specs.Names.{limit, fits}
 use Rattle.name_renames.specs.Renaming.{rename, take_back}
 use Rattle.numbers.proofs.Bools.{and_0, and_1}
 use Rattle.numbers.specs.Bytes.{Bytes}
-use Rattle.numbers.specs.Lists.{every}
+use Rattle.std.specs.List.{list_all}
 use Rattle.slots.specs.Tuples.{tuples_at, tuple_size}
 use Rattle.slots.specs.Slots.{head_size, depth_of, bytes_over, Slot, slot_size, slot_bytes, name_of, slot_of}
-use Rattle.answers.specs.declared.Answer.{Answer}
-use Rattle.answers.specs.declared.Answer.TheVariants.{Accepted, Refused}
+use Rattle.answers.specs.Answers.{Answer}
+use Rattle.std.specs.declared.result.Result.TheVariants.{Ok, Err}
 use Rattle.answers.specs.declared.Refusal.{Refusal}
 use Rattle.answers.specs.declared.Refusal.TheVariants.{BadLayout, NotRising, BadLog, TooDeep, Short, Present, Absent, Full, NoNewName, BadTable, Malformed}
 use Rattle.answers.specs.Answers.{Outcome, Test, ◌else◌, in_order, check, count_of, refuse, accept, write, outcome}
@@ -66,7 +66,7 @@ abbrev Small : Answer → Type 0
 Small a = count_of a < 4294967296
 
 -- a refusal counts nothing
-refuses : (r : Refusal) → Small (Refused r)
+refuses : (r : Refusal) → Small (Err r)
 refuses r = omega arith
 
 -- after any tests: what is refused counts nothing, and what comes after them counts where all are passed
@@ -74,7 +74,7 @@ after_tests : (tests : List Test) (w : Outcome) → (Passed tests → Small w.an
 after_tests tests w f = whichever (λ x. Small x.answer) refuse w refuses tests f
 
 checks : (tests : List Test) (n : ℕ) → (Passed tests → n < 4294967296) → Small (check tests n)
-checks tests n f = whichever Small Refused (Accepted n) refuses tests f
+checks tests n f = whichever Small Err (Ok n) refuses tests f
 
 few : (s : Bytes) → keeps_layout s ≡ true → length (slots_of s) ≤ max_slots
 few s h = let n = length_slots s in let l : length s / slot_size ≤ max_slots = (laid s h).few in omega arith
@@ -144,7 +144,7 @@ to_old_count page room =
 -- ── new names ──
 
 named_small : (c : Row) → Small (answer_name (some c)).answer
-named_small c = whichever (λ x. Small x.answer) refuse_name (record { answer = Accepted 0; name = c }) refuses (fits c else TooDeep ∷ []) (λ p. omega arith)
+named_small c = whichever (λ x. Small x.answer) refuse_name (record { answer = Ok 0; name = c }) refuses (fits c else TooDeep ∷ []) (λ p. omega arith)
 
 pub new_name_count : (page : Bytes) (gap : ℕ) (author : Author) → count_of (new_name_outcome page gap author).answer < 4294967296
 unfolding new_name_outcome
@@ -157,9 +157,9 @@ new_name_count page gap author =
     by (some c) = named_small c
 
 pub named_count : (a : Answer) (name : Row) (room : ℕ) → count_of a < 4294967296 → count_of (named a name room).answer < 4294967296
-named_count (Refused r) name room h = refuses r
-named_count (Accepted n) name room h =
-    after_tests (leb slot_size room else Short ∷ []) (record { answer = Accepted n; bytes = slot_bytes (record { line = 0; name = name }) }) (λ p. h)
+named_count (Err r) name room h = refuses r
+named_count (Ok n) name room h =
+    after_tests (leb slot_size room else Short ∷ []) (record { answer = Ok n; bytes = slot_bytes (record { line = 0; name = name }) }) (λ p. h)
 
 -- ── renames ──
 
@@ -197,14 +197,14 @@ add_count table parent author count room =
 -- a step counts nothing
 pub step_count : (x : Next) → count_of (answer_of x) < 4294967296
 step_count (next.Take s) = omega arith
-step_count (next.Refused r) = omega arith
+step_count (next.Err r) = omega arith
 
 -- and leads to an index of the table, which a u32 holds
 pub step_index_lem : (table : Bytes) (current : ℕ) → index_in (next_step_outcome table current) < 4294967296
 unfolding next_step_outcome
 step_index_lem table current =
     let t = entries_of table in
-    whichever (λ x. index_in x < 4294967296) next.Refused (next.Take (next_step t current)) (λ r. omega arith) (epoch_tests table current) (λ p.
+    whichever (λ x. index_in x < 4294967296) next.Err (next.Take (next_step t current)) (λ r. omega arith) (epoch_tests table current) (λ p.
     let l = few_entries table p.0 in
     let w : after (next_step t current) current < length t = walk_in t (checked table p.0) 1 current (ltb-true current (length t) p.1.0) in
     inside (next_step t current) (omega arith)
@@ -223,7 +223,7 @@ write_message_count x slots room =
     let s = message_bytes (parts_given x slots) in
     after_tests (may_write x slots else Malformed ∷ []) (write (map single s) room) (λ p.
     wrote (map single s) room (
-    let a = and_0 (keeps_layout slots && is_message (parts_given x slots)) (every line_is_zero (slots_of slots)) p.0 in
+    let a = and_0 (keeps_layout slots && is_message (parts_given x slots)) (list_all line_is_zero (slots_of slots)) p.0 in
     let l = no_longer (parts_given x slots) (and_1 (keeps_layout slots) (is_message (parts_given x slots)) a) in
     let m = length-map s single in
     omega arith
@@ -297,8 +297,8 @@ regroup_count : (x : Outcome) (room : ℕ) → length x.bytes ≤ ample → Smal
 regroup_count x room h = by x.answer
   where
     by : (a : Answer) → Small (regrouped a x.bytes room).answer
-    by (Refused r) = refuses r
-    by (Accepted n) = form_count x.bytes room h
+    by (Err r) = refuses r
+    by (Ok n) = form_count x.bytes room h
 
 insert_in_room : (page slot : Bytes) (room : ℕ) → length (insert_outcome page slot room).bytes ≤ room
 unfolding insert_outcome

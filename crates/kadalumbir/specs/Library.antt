@@ -4,8 +4,8 @@ use Rattle.names.specs.declared.Author.{Author}
 use Rattle.names.specs.Ordering.{Row}
 use Rattle.numbers.specs.Bytes.{Bytes}
 use Rattle.slots.specs.Slots.{slot_size, slot_bytes}
-use Rattle.answers.specs.declared.Answer.{Answer}
-use Rattle.answers.specs.declared.Answer.TheVariants.{Accepted, Refused}
+use Rattle.answers.specs.Answers.{Answer}
+use Rattle.std.specs.declared.result.Result.TheVariants.{Ok, Err}
 use Rattle.answers.specs.declared.Refusal.TheVariants.{Short}
 use Rattle.answers.specs.Answers.{Outcome, number_of, count_of, ask, refuse}
 use Rattle.new_names.specs.NewNames.{new_name_outcome}
@@ -17,8 +17,8 @@ packed a = number_of a * 4294967296 + count_of a
 
 -- A new name is written as one slot with line number 0, where the output has room for one.
 abbrev pub named : Answer → Row → ℕ → Outcome
-named (Refused r) name room = refuse r
-named (Accepted n) name room = ask (leb slot_size room) (refuse Short) (record { answer = Accepted n; bytes = slot_bytes (record { line = 0; name = name }) })
+named (Err r) name room = refuse r
+named (Ok n) name room = ask (leb slot_size room) (refuse Short) (record { answer = Ok n; bytes = slot_bytes (record { line = 0; name = name }) })
 
 -- "new name 1, 2, 4, 16, 12, 6", and 8 after them
 abbrev pub new_slot_outcome : Bytes → ℕ → Author → ℕ → Outcome

@@ -95,13 +95,13 @@ fn write_name(answer: Answer, name: Name, out: &mut [u8]) -> Answer
     ensures out_after { out.new ≡ leaves (named answer (row_of name) (length out.old)) out.old }
 {
     match answer {
-        Answer::Refused(r) => Answer::Refused(r),
-        Answer::Accepted(n) => {
+        Err(r) => Err(r),
+        Ok(n) => {
             if out.len() < SLOT {
-                return Answer::Refused(Refusal::Short);
+                return Err(Refusal::Short);
             }
             slots::write_slot(out, 0, 0, name);
-            Answer::Accepted(n)
+            Ok(n)
         }
     }
 }

@@ -7,8 +7,8 @@ use native.Mathlib.Omega.{arith}
 use lib.IntN.{negsuc}
 use Rattle.names.specs.Ordering.{rising}
 use Rattle.numbers.specs.Bytes.{Bytes}
-use Rattle.answers.specs.declared.Answer.{Answer}
-use Rattle.answers.specs.declared.Answer.TheVariants.{Refused}
+use Rattle.answers.specs.Answers.{Answer}
+use Rattle.std.specs.declared.result.Result.TheVariants.{Err}
 use Rattle.answers.specs.declared.Refusal.TheVariants.{BadLayout, NotRising}
 use Rattle.listing_text.specs.Ascii.{ascii}
 use Rattle.listing_text.specs.Listing.{decimal, decimal_ℤ, tuple_text, name_text, line_text, header, book_text, refused_text, answer_text, check_input, listing}
@@ -37,11 +37,11 @@ unfolding listing check_page layout_over rising
 empty = refl
 
 -- "A bad page gives only the line `refused 1` or `refused 2`"
-pub refused_1 : (page rest : Bytes) → check_input page rest ≡ Refused BadLayout → listing page rest ≡ ascii "refused 1\n"
+pub refused_1 : (page rest : Bytes) → check_input page rest ≡ Err BadLayout → listing page rest ≡ ascii "refused 1\n"
 unfolding listing refused_text decimal
 refused_1 page rest e = ap (λ (a : Answer). answer_text a page) e
 
-pub refused_2 : (page rest : Bytes) → check_input page rest ≡ Refused NotRising → listing page rest ≡ ascii "refused 2\n"
+pub refused_2 : (page rest : Bytes) → check_input page rest ≡ Err NotRising → listing page rest ≡ ascii "refused 2\n"
 unfolding listing refused_text decimal
 refused_2 page rest e = ap (λ (a : Answer). answer_text a page) e
 

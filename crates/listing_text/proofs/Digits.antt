@@ -10,7 +10,7 @@ use borrow.Author.Tests.{lt-ltb, le-ltb, le-leb}
 use lib.ListN.{length, get_or, length-append, get_or-append}
 use Rattle.names.specs.Names.{within}
 use Rattle.numbers.specs.Bytes.{Bytes}
-use Rattle.numbers.specs.Lists.{every}
+use Rattle.std.specs.List.{list_all}
 use Rattle.numbers.proofs.Every.{every_append}
 use Rattle.listing_text.specs.Listing.{digits, decimal}
 
@@ -149,8 +149,8 @@ is_digit b = within 48 57 b
 last_digit : (n : ℕ) → is_digit (last n) ≡ true
 last_digit n = rw (le-leb 48 (last n) (omega arith), le-leb (last n) 57 (omega arith))
 
-pub all_digits : (n : ℕ) → every is_digit (decimal n) ≡ true
+pub all_digits : (n : ℕ) → list_all is_digit (decimal n) ≡ true
 all_digits =
-    by_digits (λ n. every is_digit (decimal n) ≡ true)
+    by_digits (λ n. list_all is_digit (decimal n) ≡ true)
     (λ n h. rw (decimal_one n h, last_digit n))
-    (λ n h v. ap (every is_digit) (decimal_more n h) ∙ every_append is_digit (decimal (n / 10)) (last n ∷ []) ∙ rw (v, last_digit n))
+    (λ n h v. ap (list_all is_digit) (decimal_more n h) ∙ every_append is_digit (decimal (n / 10)) (last n ∷ []) ∙ rw (v, last_digit n))

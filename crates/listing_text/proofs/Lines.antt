@@ -10,13 +10,13 @@ use lib.Seq.{take-suc}
 use lib.Dec.{eqb}
 use Rattle.names.specs.Names.{limit}
 use Rattle.numbers.specs.Bytes.{Bytes}
-use Rattle.numbers.specs.Lists.{every}
+use Rattle.std.specs.List.{list_all}
 use Rattle.slots.specs.Slots.{Slot, slot_size, slot_of, depth_of, keeps_slot}
 use Rattle.slots.proofs.RoundTrip.{kept}
 use Rattle.answers.specs.declared.Refusal.{Refusal}
 use Rattle.answers.specs.declared.Refusal.TheVariants.{BadLayout, NotRising}
-use Rattle.answers.specs.declared.Answer.{Answer}
-use Rattle.answers.specs.declared.Answer.TheVariants.{Accepted, Refused}
+use Rattle.answers.specs.Answers.{Answer}
+use Rattle.std.specs.declared.result.Result.TheVariants.{Ok, Err}
 use Rattle.answers.specs.Answers.{◌else◌, number_of}
 use Rattle.pages.specs.Pages.{parts, slots_of, keeps_layout, rises, check_page}
 use Rattle.pages.proofs.SlotBySlot.{length_parts, lent, lent_part, lent_keeps}
@@ -39,23 +39,23 @@ module _ (s : Bytes) (n k : ℕ) (h : k < n) where
       (lines_append (take k l) (slot_of (lent s (slot_size * k)) ∷ []) ∙ ap (λ (w : Bytes). lines_text (take k l) ++ w) (append-nil (line_text (slot_of (lent s (slot_size * k))))))
 
   -- a slot that keeps the layout has a name
-  pub deep : every keeps_slot (parts n s) ≡ true → 1 ≤ depth_of (lent s (slot_size * k))
+  pub deep : list_all keeps_slot (parts n s) ≡ true → 1 ≤ depth_of (lent s (slot_size * k))
   deep e = (kept (lent s (slot_size * k)) (lent_keeps limit s n k h e)).deep
 
 -- ── what is answered ──
 
 module _ (page rest : Bytes) {a : Answer} (q : a ≡ check_input page rest) where
-  pub accepted_layout : (n : ℕ) → a ≡ Accepted n → keeps_layout page ≡ true
+  pub accepted_layout : (n : ℕ) → a ≡ Ok n → keeps_layout page ≡ true
   unfolding check_page
   accepted_layout n e =
-      let g = reached (λ x. x ≡ Accepted n) Refused (check_page page) (λ r f. no_answer r n f) (eqb (length rest) 0 else BadLayout ∷ []) (sym q ∙ e) in
+      let g = reached (λ x. x ≡ Ok n) Err (check_page page) (λ r f. no_answer r n f) (eqb (length rest) 0 else BadLayout ∷ []) (sym q ∙ e) in
       let tests = keeps_layout page else BadLayout ∷ rises page else NotRising ∷ [] in
-      (reached (λ x. x ≡ Accepted n) Refused (Accepted (length (slots_of page))) (λ r f. no_answer r n f) tests g.1).0.0
+      (reached (λ x. x ≡ Ok n) Err (Ok (length (slots_of page))) (λ r f. no_answer r n f) tests g.1).0.0
 
-  pub accepted_text : (n : ℕ) → a ≡ Accepted n → book_text (slots_of page) ≡ listing page rest
+  pub accepted_text : (n : ℕ) → a ≡ Ok n → book_text (slots_of page) ≡ listing page rest
   unfolding listing
   accepted_text n e = ap (λ (x : Answer). answer_text x page) (sym e ∙ q)
 
-  pub refused_text_lem : (r : Refusal) → a ≡ Refused r → refused_text (number_of a) ≡ listing page rest
+  pub refused_text_lem : (r : Refusal) → a ≡ Err r → refused_text (number_of a) ≡ listing page rest
   unfolding listing
   refused_text_lem r e = ap (λ (x : Answer). refused_text (number_of x)) e ∙ ap (λ (x : Answer). answer_text x page) (sym e ∙ q)

@@ -4,7 +4,7 @@ use Rattle.std.specs.Prelude.{◌≡◌, [], ◌∷◌, ℕ, ◌*◌, pos, negsu
 use Rattle.names.specs.Ordering.{Row}
 use Rattle.numbers.specs.Bytes.{Bytes}
 use Rattle.slots.specs.Slots.{slot_size}
-use Rattle.answers.specs.declared.Answer.TheVariants.{Refused}
+use Rattle.std.specs.declared.result.Result.TheVariants.{Err}
 use Rattle.answers.specs.declared.Refusal.TheVariants.{BadLayout, NotRising}
 use Rattle.pages.specs.Pages.{max_slots, check_page}
 use Rattle.listing_text.specs.Ascii.{ascii}
@@ -28,8 +28,8 @@ pub record Cases : Type 0 where
   -- "Empty input gives the header."
   pub empty : listing [] [] ≡ header
   -- "A bad page gives only the line `refused 1` or `refused 2`"
-  pub refused_1 : (page rest : Bytes) → check_input page rest ≡ Refused BadLayout → listing page rest ≡ ascii "refused 1\n"
-  pub refused_2 : (page rest : Bytes) → check_input page rest ≡ Refused NotRising → listing page rest ≡ ascii "refused 2\n"
+  pub refused_1 : (page rest : Bytes) → check_input page rest ≡ Err BadLayout → listing page rest ≡ ascii "refused 1\n"
+  pub refused_2 : (page rest : Bytes) → check_input page rest ≡ Err NotRising → listing page rest ≡ ascii "refused 2\n"
 
 -- 02, P8: "a page is at most 51,200 bytes"
 abbrev pub page_size : ℕ

@@ -6,8 +6,8 @@ use Rattle.names.specs.Ordering.{Row}
 use Rattle.numbers.specs.Bytes.{Bytes}
 use Rattle.slots.specs.Slots.{Slot}
 use Rattle.answers.specs.declared.Refusal.TheVariants.{BadLayout}
-use Rattle.answers.specs.declared.Answer.{Answer}
-use Rattle.answers.specs.declared.Answer.TheVariants.{Accepted, Refused}
+use Rattle.answers.specs.Answers.{Answer}
+use Rattle.std.specs.declared.result.Result.TheVariants.{Ok, Err}
 use Rattle.answers.specs.Answers.{refusal_number, ◌else◌, in_order}
 use Rattle.pages.specs.Pages.{slots_of, check_page}
 use Rattle.listing_text.specs.Ascii.{ascii}
@@ -61,13 +61,13 @@ refused_text n = ascii "refused " ++ decimal n ++ ascii "\n"
 
 -- the lines of an accepted page, or the number of the refusal
 abbrev pub answer_text : Answer → Bytes → Bytes
-answer_text (Accepted n) page = book_text (slots_of page)
-answer_text (Refused r) page = refused_text (refusal_number r)
+answer_text (Ok n) page = book_text (slots_of page)
+answer_text (Err r) page = refused_text (refusal_number r)
 
 -- "input above 26,624 bytes is `refused 1`" (02, P8: "a page is at most 51,200 bytes"): rest is what comes after as many bytes as the
 -- largest page has
 abbrev pub check_input : Bytes → Bytes → Answer
-check_input page rest = in_order (eqb (length rest) 0 else BadLayout ∷ []) Refused (check_page page)
+check_input page rest = in_order (eqb (length rest) 0 else BadLayout ∷ []) Err (check_page page)
 
 unfoldable pub listing : Bytes → Bytes → Bytes
 listing page rest = answer_text (check_input page rest) page

@@ -181,7 +181,7 @@ fn check_input(page: &[u8], rest: &[u8]) -> Answer
     ensures { result ≡ check_input page.now rest.now }
 {
     if rest.len() != 0 {
-        return Answer::Refused(Refusal::BadLayout);
+        return Err(Refusal::BadLayout);
     }
     pages::check_page(page)
 }
@@ -194,10 +194,10 @@ pub fn list(page: &[u8], rest: &[u8], out: &mut [u8; TEXT]) -> usize
 {
     let answer = check_input(page, rest);
     match answer {
-        Answer::Accepted(_) => {
+        Ok(_) => {
             let p = put_header(out, 0);
             put_lines(out, p, page)
         }
-        Answer::Refused(_) => put_refused(out, 0, answers::number(answer)),
+        Err(_) => put_refused(out, 0, answers::number(answer)),
     }
 }

@@ -8,12 +8,12 @@ use borrow.Author.Tests.{leb-true, le-leb}
 use lib.Dec.{leb}
 use lib.ListN.{length}
 use Rattle.names.specs.declared.Author.{Author}
-use Rattle.names.specs.declared.Order.TheVariants.{Same}
+use Rattle.std.specs.declared.cmp.Ordering.TheVariants.{Equal}
 use Rattle.names.specs.Ordering.{Row, compare_tuples}
 use Rattle.names.proofs.Laws.{tuple_same}
 use Rattle.numbers.specs.Bytes.{Bytes}
 use Rattle.numbers.proofs.Bools.{and_0}
-use Rattle.answers.specs.declared.Answer.TheVariants.{Accepted}
+use Rattle.std.specs.declared.result.Result.TheVariants.{Ok}
 use Rattle.answers.specs.Answers.{Outcome}
 use Rattle.slots.specs.Slots.{Slot}
 use Rattle.pages.specs.Pages.{max_slots, name_in}
@@ -85,7 +85,7 @@ module _ (s : Bytes) (room n : ℕ) (h : Reads s room n) where
       let q : parent < length table / entry_size = omega arith in
       let room-left : length table / entry_size < 32 = omega arith in
       ap (λ (x : Outcome). x.answer) (done table parent (author_read s room) n out k q has_node is_count_lem l room-left octets r)
-      ∙ ap (λ (m : ℕ). Accepted (m + 1)) (sym c)
+      ∙ ap (λ (m : ℕ). Ok (m + 1)) (sym c)
 
 -- ── two units ──
 
@@ -100,7 +100,7 @@ alike s room n room' n' h k =
     }
 
 -- entries of one author and one count have one key, whatever their parents
-one_key : (a b : Author) (i j n m : ℕ) → a ≡ b → n ≡ m → compare_keys (entry_by a i n) (entry_by b j m) ≡ Same
+one_key : (a b : Author) (i j n m : ℕ) → a ≡ b → n ≡ m → compare_keys (entry_by a i n) (entry_by b j m) ≡ Equal
 one_key a b i j n m p q =
     keys_tuples (entry_by a i n) (entry_by b j m)
     ∙ (λ z. compare_tuples (key_tuple (entry_by (p z) i (q z))) (key_tuple (entry_by b j m)))

@@ -4,7 +4,7 @@
 use Rattle.std.specs.Prelude.{ℕ, ◌+◌, ◌<◌, ◌≤◌, ◌≡◌, true, false, length}
 use Rattle.names.specs.declared.Author.{Author}
 use Rattle.numbers.specs.Bytes.{Bytes, Octets}
-use Rattle.answers.specs.declared.Answer.TheVariants.{Accepted}
+use Rattle.std.specs.declared.result.Result.TheVariants.{Ok}
 use Rattle.pages.specs.Pages.{names_of, is_log}
 use Rattle.messages.specs.Messages.{rename}
 use Rattle.messages.specs.Calls.{read_outcome, numbers_read}
@@ -17,7 +17,7 @@ use Rattle.epochs.specs.Calls.{entry_by, add_outcome}
 
 -- the unit read the message s, into an output of so many bytes: it is a rename, and n names were counted
 pub record Reads (s : Bytes) (room n : ℕ) : Type 0 where
-  pub accepted : (read_outcome s room).answer ≡ Accepted n
+  pub accepted : (read_outcome s room).answer ≡ Ok n
   pub kind : (numbers_read s room).kind ≡ rename
 
 -- who renamed, and of which epoch's names
@@ -43,7 +43,7 @@ abbrev pub Suffices : Bytes → ℕ → ℕ → Type 0
 Suffices s room n =
     (table : Bytes) (parent out : ℕ) → Octets table → keeps_table table ≡ true → parent < length (entries_of table) →
     listed (entry_by (author_read s room) parent n) (entries_of table) ≡ false → length (entries_of table) < max_entries →
-    length table + entry_size ≤ out → (add_outcome table parent (author_read s room) n out).answer ≡ Accepted (length (entries_of table) + 1)
+    length table + entry_size ≤ out → (add_outcome table parent (author_read s room) n out).answer ≡ Ok (length (entries_of table) + 1)
 
 -- ── two units ──
 
@@ -68,7 +68,7 @@ pub record Hears (s table second : Bytes) : Type 0 where
   -- and adding, into an output of so many bytes, gives a second table, of m entries
   pub out : ℕ
   pub m : ℕ
-  pub accepted : (add_outcome table parent (author_read s room) n out).answer ≡ Accepted m
+  pub accepted : (add_outcome table parent (author_read s room) n out).answer ≡ Ok m
   pub second_is : (add_outcome table parent (author_read s room) n out).bytes ≡ second
 
 -- what two units' tables have in common: the same epochs, in whatever order they came, and the same target by count, node and sequence

@@ -12,8 +12,8 @@ use Rattle.numbers.specs.Bytes.{Bytes}
 use Rattle.slots.specs.Slots.{slot_size, slot_bytes}
 use Rattle.answers.specs.declared.Refusal.{Refusal}
 use Rattle.answers.specs.declared.Refusal.TheVariants.{Malformed, Short}
-use Rattle.answers.specs.declared.Answer.{Answer}
-use Rattle.answers.specs.declared.Answer.TheVariants.{Accepted, Refused}
+use Rattle.answers.specs.Answers.{Answer}
+use Rattle.std.specs.declared.result.Result.TheVariants.{Ok, Err}
 use Rattle.answers.specs.Answers.{Outcome, Test, ◌else◌, refuse, accept, write, outcome}
 use Rattle.pages.specs.Pages.{pieces}
 use Rattle.pages.proofs.RoundTrip.{written_length}
@@ -31,14 +31,14 @@ use Rattle.messages.proofs.BareSlots.{bare_slots}
 -- ── one test, and then the output ──
 
 -- a refusal is not an acceptance
-no_count : {A : Type 0} {r : Refusal} {n : ℕ} {a : Answer} → a ≡ Refused r → a ≡ Accepted n → A
+no_count : {A : Type 0} {r : Refusal} {n : ℕ} {a : Answer} → a ≡ Err r → a ≡ Ok n → A
 no_count e f = absurd (let z : ◌≡◌ {A = ℕ} 0 1 = cc in omega arith)
 
 abbrev answered : {x y : Outcome} → x ≡ y → x.answer ≡ y.answer
 answered e = ap (λ (o : Outcome). o.answer) e
 
 module _ (l : List Bytes) (room : ℕ) where
-  write_fits : {n : ℕ} → (write l room).answer ≡ Accepted n → length (flatten l) ≤ room
+  write_fits : {n : ℕ} → (write l room).answer ≡ Ok n → length (flatten l) ≤ room
   write_fits e = elim (dec_le (length (flatten l)) room) [
     | yes h ↦ h
     | no h ↦ let k : room < length (flatten l) = omega arith in no_count (answered (writes_short l room k)) e
@@ -57,7 +57,7 @@ module _ (l : List Bytes) (room : ℕ) where
     done : b ≡ true → length (flatten l) ≤ room → outcome (b else Malformed ∷ []) l room ≡ accept l
     done h k = passed refuse (write l room) tests (h, tt) ∙ writes l room (length l) (flatten l) refl refl k
 
-    is_malformed : (outcome (b else Malformed ∷ []) l room).answer ≡ Refused Malformed → b ≡ false
+    is_malformed : (outcome (b else Malformed ∷ []) l room).answer ≡ Err Malformed → b ≡ false
     is_malformed e = by (refused_first (write l room) tests e)
       where
         by : RefusedBy Malformed tests (write l room) → b ≡ false
@@ -65,7 +65,7 @@ module _ (l : List Bytes) (room : ℕ) where
         by (test (here p q)) = p
         by (after p f) = absurd (let short = (write_refuses l room f).0 in let z : ◌≡◌ {A = ℕ} 0 1 = cc in omega arith)
 
-    is_short : (outcome (b else Malformed ∷ []) l room).answer ≡ Refused Short → (b ≡ true) × (room < length (flatten l))
+    is_short : (outcome (b else Malformed ∷ []) l room).answer ≡ Err Short → (b ≡ true) × (room < length (flatten l))
     is_short e = by (refused_first (write l room) tests e)
       where
         by : RefusedBy Short tests (write l room) → (b ≡ true) × (room < length (flatten l))
@@ -73,11 +73,11 @@ module _ (l : List Bytes) (room : ℕ) where
         by (test (here p q)) = absurd (let z : ◌≡◌ {A = ℕ} 0 1 = cc in omega arith)
         by (after p f) = (p.0, (write_refuses l room f).1)
 
-    is_done : {n : ℕ} → (outcome (b else Malformed ∷ []) l room).answer ≡ Accepted n → (b ≡ true) × (length (flatten l) ≤ room) × (n ≡ length l)
+    is_done : {n : ℕ} → (outcome (b else Malformed ∷ []) l room).answer ≡ Ok n → (b ≡ true) × (length (flatten l) ≤ room) × (n ≡ length l)
     is_done {n} e =
         let p = accepted_passes (write l room) n tests e in
-        let f : (write l room).answer ≡ Accepted n = answered (sym p.1) ∙ e in
-        let g : Accepted (length l) ≡ Accepted n = answered (sym (write_accepted l room n f)) ∙ f in
+        let f : (write l room).answer ≡ Ok n = answered (sym p.1) ∙ e in
+        let g : Ok (length l) ≡ Ok n = answered (sym (write_accepted l room n f)) ∙ f in
         (p.0.0, write_fits f, let same : n ≡ length l = cc in same)
 
 -- ── reading ──
@@ -104,25 +104,25 @@ module _ (s : Bytes) (room : ℕ) where
     read_short k = short slots room (keeps_message s) h (omega (arith, slots_size))
 
     pub read_done : slot_size * length (names_in s) ≤ room
-        → read_outcome s room ≡ record { answer = Accepted (length (names_in s)); bytes = flatten (pieces (map bare (names_in s))) }
+        → read_outcome s room ≡ record { answer = Ok (length (names_in s)); bytes = flatten (pieces (map bare (names_in s))) }
     unfolding read_outcome
     read_done k =
-        done slots room (keeps_message s) h (omega (arith, slots_size)) ∙ (λ i. record { answer = Accepted (slots_count i); bytes = flatten slots })
+        done slots room (keeps_message s) h (omega (arith, slots_size)) ∙ (λ i. record { answer = Ok (slots_count i); bytes = flatten slots })
 
-  pub when_malformed : ((read_outcome s room).answer ≡ Refused Malformed) ↔ (keeps_message s ≡ false)
+  pub when_malformed : ((read_outcome s room).answer ≡ Err Malformed) ↔ (keeps_message s ≡ false)
   unfolding read_outcome
   when_malformed = (is_malformed slots room (keeps_message s), λ h. answered (read_malformed h))
 
-  pub when_short : ((read_outcome s room).answer ≡ Refused Short) ↔ ((keeps_message s ≡ true) × (room < slot_size * length (names_in s)))
+  pub when_short : ((read_outcome s room).answer ≡ Err Short) ↔ ((keeps_message s ≡ true) × (room < slot_size * length (names_in s)))
   unfolding read_outcome
   when_short = (λ e. let v = is_short slots room (keeps_message s) e in (v.0, rw (slots_size v.0) at v.1), λ v. answered (read_short v.0 v.1))
 
-  pub when_read : (n : ℕ) → ((read_outcome s room).answer ≡ Accepted n)
+  pub when_read : (n : ℕ) → ((read_outcome s room).answer ≡ Ok n)
       ↔ ((keeps_message s ≡ true) × (slot_size * length (names_in s) ≤ room) × (n ≡ length (names_in s)))
   unfolding read_outcome
   when_read n = (
     λ e. let v = is_done slots room (keeps_message s) e in (v.0, rw (slots_size v.0) at v.1, v.2 ∙ slots_count),
-    λ v. answered (read_done v.0 v.1) ∙ ap Accepted (sym v.2),
+    λ v. answered (read_done v.0 v.1) ∙ ap Ok (sym v.2),
   )
 
 -- ── writing ──
@@ -143,17 +143,17 @@ module _ (x : Numbers) (slots : Bytes) (room : ℕ) where
   write_too_long h k = short (map single w) room (may_write x slots) h (omega (arith, size))
 
   pub write_done : may_write x slots ≡ true → length (message_bytes (parts_given x slots)) ≤ room
-      → write_outcome x slots room ≡ record { answer = Accepted (length (message_bytes (parts_given x slots))); bytes = message_bytes (parts_given x slots) }
+      → write_outcome x slots room ≡ record { answer = Ok (length (message_bytes (parts_given x slots))); bytes = message_bytes (parts_given x slots) }
   unfolding write_outcome
   write_done h k =
       done (map single w) room (may_write x slots) h (omega (arith, size))
-      ∙ (λ i. record { answer = Accepted (length-map w single i); bytes = flat_single w i })
+      ∙ (λ i. record { answer = Ok (length-map w single i); bytes = flat_single w i })
 
-  pub when_unwritable : ((write_outcome x slots room).answer ≡ Refused Malformed) ↔ (may_write x slots ≡ false)
+  pub when_unwritable : ((write_outcome x slots room).answer ≡ Err Malformed) ↔ (may_write x slots ≡ false)
   unfolding write_outcome
   when_unwritable = (is_malformed (map single w) room (may_write x slots), λ h. answered (write_malformed h))
 
-  pub when_too_long : ((write_outcome x slots room).answer ≡ Refused Short)
+  pub when_too_long : ((write_outcome x slots room).answer ≡ Err Short)
       ↔ ((may_write x slots ≡ true) × (room < length (message_bytes (parts_given x slots))))
   unfolding write_outcome
   when_too_long = (
@@ -161,10 +161,10 @@ module _ (x : Numbers) (slots : Bytes) (room : ℕ) where
     λ v. answered (write_too_long v.0 v.1),
   )
 
-  pub when_written : (n : ℕ) → ((write_outcome x slots room).answer ≡ Accepted n)
+  pub when_written : (n : ℕ) → ((write_outcome x slots room).answer ≡ Ok n)
       ↔ ((may_write x slots ≡ true) × (length (message_bytes (parts_given x slots)) ≤ room) × (n ≡ length (message_bytes (parts_given x slots))))
   unfolding write_outcome
   when_written n = (
     λ e. let v = is_done (map single w) room (may_write x slots) e in (v.0, rw size at v.1, v.2 ∙ length-map w single),
-    λ v. answered (write_done v.0 v.1) ∙ ap Accepted (sym v.2),
+    λ v. answered (write_done v.0 v.1) ∙ ap Ok (sym v.2),
   )

@@ -11,10 +11,10 @@ use lib.Dec.{eqb}
 use lib.ListN.{length, length-map}
 use Rattle.numbers.proofs.Bools.{and_0, and_1}
 use Rattle.numbers.specs.Bytes.{Bytes, Octets}
-use Rattle.numbers.specs.Lists.{every}
+use Rattle.std.specs.List.{list_all}
 use Rattle.slots.specs.Slots.{Slot, is_slot}
 use Rattle.answers.specs.declared.Refusal.TheVariants.{Malformed}
-use Rattle.answers.specs.declared.Answer.TheVariants.{Accepted}
+use Rattle.std.specs.declared.result.Result.TheVariants.{Ok}
 use Rattle.answers.specs.Answers.{Outcome, ◌else◌, outcome}
 use Rattle.pages.specs.Pages.{max_slots, slots_of, name_in, names_of, pieces, keeps_layout, line_is_zero}
 use Rattle.pages.proofs.RoundTrip.{slots_back, encoded_layout}
@@ -37,7 +37,7 @@ module _ (x : Numbers) (slots : Bytes) (may : may_write x slots ≡ true) where
   given = parts_given x slots
 
   abbrev zero_lines : Bool
-  zero_lines = every line_is_zero (slots_of slots)
+  zero_lines = list_all line_is_zero (slots_of slots)
 
   asked : keeps_layout slots && is_message given ≡ true
   asked = and_0 (keeps_layout slots && is_message given) zero_lines may
@@ -52,7 +52,7 @@ module _ (x : Numbers) (slots : Bytes) (may : may_write x slots ≡ true) where
   bared = bare_names (slots_of slots) (and_1 (keeps_layout slots && is_message given) zero_lines may)
 
   module _ (k : Octets slots) (room : ℕ) (l : length slots ≤ room) where
-    pub read_slots : read_outcome (message_bytes (parts_given x slots)) room ≡ record { answer = Accepted (length (slots_of slots)); bytes = slots }
+    pub read_slots : read_outcome (message_bytes (parts_given x slots)) room ≡ record { answer = Ok (length (slots_of slots)); bytes = slots }
     unfolding read_outcome
     read_slots =
         let p = parts_back given may_message in
@@ -65,7 +65,7 @@ module _ (x : Numbers) (slots : Bytes) (may : may_write x slots ≡ true) where
         ap (λ (o : Outcome). given_by o.answer (numbers_in (message_bytes given))) read_slots
         ∙ ap (λ (p : Parts). p.numbers) (parts_back given may_message)
 
-module _ (x : Numbers) (slots : Bytes) (room n : ℕ) (h : (write_outcome x slots room).answer ≡ Accepted n) where
+module _ (x : Numbers) (slots : Bytes) (room n : ℕ) (h : (write_outcome x slots room).answer ≡ Ok n) where
   abbrev w : Bytes
   w = message_bytes (parts_given x slots)
 
@@ -76,7 +76,7 @@ module _ (x : Numbers) (slots : Bytes) (room n : ℕ) (h : (write_outcome x slot
   written_is = ap (λ (o : Outcome). o.bytes) (write_done x slots room found_may ((when_written x slots room n).0 h).1)
 
   module _ (k : Octets slots) (room' : ℕ) (l : length slots ≤ room') where
-    pub read_written : read_outcome (write_outcome x slots room).bytes room' ≡ record { answer = Accepted (length (slots_of slots)); bytes = slots }
+    pub read_written : read_outcome (write_outcome x slots room).bytes room' ≡ record { answer = Ok (length (slots_of slots)); bytes = slots }
     read_written = ap (λ (s : Bytes). read_outcome s room') written_is ∙ read_slots x slots found_may k room' l
 
     pub numbers_written : numbers_read (write_outcome x slots room).bytes room' ≡ x
@@ -91,7 +91,7 @@ most_few kind = go (eqb kind rename)
     go true = omega arith
     go false = omega arith
 
-module _ (s : Bytes) (room n : ℕ) (h : (read_outcome s room).answer ≡ Accepted n) where
+module _ (s : Bytes) (room n : ℕ) (h : (read_outcome s room).answer ≡ Ok n) where
   kept : keeps_message s ≡ true
   kept = ((when_read s room n).0 h).0
 
@@ -99,10 +99,10 @@ module _ (s : Bytes) (room n : ℕ) (h : (read_outcome s room).answer ≡ Accept
   slots = flatten (pieces (map bare (names_in s)))
 
   -- what reading gives
-  pub read_is : read_outcome s room ≡ record { answer = Accepted (length (names_in s)); bytes = flatten (pieces (map bare (names_in s))) }
+  pub read_is : read_outcome s room ≡ record { answer = Ok (length (names_in s)); bytes = flatten (pieces (map bare (names_in s))) }
   read_is = read_done s room kept ((when_read s room n).0 h).1
 
-  good_slots : every is_slot (map bare (names_in s)) ≡ true
+  good_slots : list_all is_slot (map bare (names_in s)) ≡ true
   good_slots = bare_slots (names_in s) (good (parts_in s) (parts_message s kept)).named
 
   few_slots : length (map bare (names_in s)) ≤ max_slots
@@ -127,19 +127,19 @@ module _ (s : Bytes) (room n : ℕ) (h : (read_outcome s room).answer ≡ Accept
       λ i.
       encoded_layout (map bare (names_in s)) good_slots few_slots i
       && (ap is_message parts_again ∙ parts_message s kept) i
-      && (ap (every line_is_zero) again ∙ bare_zero (names_in s)) i
+      && (ap (list_all line_is_zero) again ∙ bare_zero (names_in s)) i
 
   -- the numbers and slots that reading gives may be written
   pub may_again : may_write (numbers_read s room) (read_outcome s room).bytes ≡ true
   may_again = ap (λ (o : Outcome). may_write (given_by o.answer (numbers_in s)) o.bytes) read_is ∙ may
 
   pub write_read : Octets s → (room' : ℕ) → length s ≤ room'
-      → write_outcome (numbers_read s room) (read_outcome s room).bytes room' ≡ record { answer = Accepted (length s); bytes = s }
+      → write_outcome (numbers_read s room) (read_outcome s room).bytes room' ≡ record { answer = Ok (length s); bytes = s }
   write_read k room' l =
       let b : message_bytes (parts_given (numbers_in s) slots) ≡ s = ap message_bytes parts_again ∙ bytes_back s k kept in
       ap (λ (o : Outcome). write_outcome (given_by o.answer (numbers_in s)) o.bytes room') read_is
       ∙ write_done (numbers_in s) slots room' may (rw b l)
-      ∙ (λ i. record { answer = Accepted (length (b i)); bytes = b i })
+      ∙ (λ i. record { answer = Ok (length (b i)); bytes = b i })
 
 -- ── what may be written ──
 

@@ -1,6 +1,6 @@
 -- What holds of every message and of every call that reads or writes one (specs/Laws.antt): `laws`. Assumes nothing.
 use mathlib.Core.Path.{sym, ap, ◌∙◌}
-use Rattle.answers.specs.declared.Answer.{Answer}
+use Rattle.answers.specs.Answers.{Answer}
 use Rattle.messages.specs.Messages.{message_bytes, numbers_in, parts_in, keeps_message}
 use Rattle.messages.specs.Calls.{given_by}
 use Rattle.messages.specs.Laws.{InverseLaws, LongestLaws, Laws}

@@ -14,7 +14,7 @@ use Rattle.numbers.proofs.Bools.{and_0, and_1}
 use Rattle.names.proofs.Laws.{Rising_rising}
 use Rattle.numbers.specs.Bytes.{Bytes, Octets, bytes32}
 use Rattle.slots.specs.Tuples.{tuple_size}
-use Rattle.numbers.specs.Lists.{every}
+use Rattle.std.specs.List.{list_all}
 use Rattle.pages.specs.Pages.{max_slots}
 use Rattle.numbers.proofs.Lists.{flat, flat_none}
 use Rattle.fields.specs.Fields.{field_head, field_bytes}
@@ -47,11 +47,11 @@ message_length p =
 
 -- ── no message is longer ──
 
-names_bound : (l : List Row) → every name_fits l ≡ true → length (flatten (map name_field l)) ≤ length l * (field_head + tuple_size * limit)
+names_bound : (l : List Row) → list_all name_fits l ≡ true → length (flatten (map name_field l)) ≤ length l * (field_head + tuple_size * limit)
 names_bound [] e = let z : length (flatten {A = ℕ} []) ≡ 0 = ap length flat_none in omega arith
 names_bound (a ∷ l) e =
-    let f = leb-true (length a) limit (and_1 (is_name a) (fits a) (and_0 (name_fits a) (every name_fits l) e)) in
-    let b = names_bound l (and_1 (name_fits a) (every name_fits l) e) in
+    let f = leb-true (length a) limit (and_1 (is_name a) (fits a) (and_0 (name_fits a) (list_all name_fits l) e)) in
+    let b = names_bound l (and_1 (name_fits a) (list_all name_fits l) e) in
     let c = names_cons a l in
     omega arith
 

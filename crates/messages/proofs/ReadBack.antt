@@ -14,7 +14,7 @@ use Rattle.names.specs.Names.{fits, is_name}
 use Rattle.numbers.proofs.Bools.{and_0, and_1}
 use Rattle.numbers.specs.Bytes.{Bytes, at32, bytes32}
 use Rattle.slots.specs.Tuples.{row_bytes}
-use Rattle.numbers.specs.Lists.{every}
+use Rattle.std.specs.List.{list_all}
 use Rattle.numbers.proofs.NumberBytes.{back32}
 use Rattle.numbers.proofs.Lists.{flat, flat_none, flat_append}
 use Rattle.fields.specs.Fields.{field_head, after_field, stands, field_bytes, nothing}
@@ -46,14 +46,14 @@ module _ (r : Bytes) (e : name_stands r ≡ false) where
       ap (λ (x : Bytes). x ++ r) (flat (name_field a) (map name_field l))
       ∙ append_assoc (name_field a) (flatten (map name_field l)) r
 
-  pub names_back_lem : (l : List Row) (most : ℕ) → every name_fits l ≡ true → length l ≤ most
+  pub names_back_lem : (l : List Row) (most : ℕ) → list_all name_fits l ≡ true → length l ≤ most
       → names_within most (flatten (map name_field l) ++ r) ≡ l
   names_back_lem [] most h f = ap (names_within most) none ∙ names_stop r e most
   names_back_lem (a ∷ l) zero h f = absurd (omega arith)
   names_back_lem (a ∷ l) (suc most) h f =
       ap (names_within (suc most)) (cons a l)
-      ∙ names_on a (flatten (map name_field l) ++ r) most (and_0 (is_name a) (fits a) (and_0 (name_fits a) (every name_fits l) h))
-      ∙ ap (λ (x : List Row). a ∷ x) (names_back_lem l most (and_1 (name_fits a) (every name_fits l) h) (omega arith))
+      ∙ names_on a (flatten (map name_field l) ++ r) most (and_0 (is_name a) (fits a) (and_0 (name_fits a) (list_all name_fits l) h))
+      ∙ ap (λ (x : List Row). a ∷ x) (names_back_lem l most (and_1 (name_fits a) (list_all name_fits l) h) (omega arith))
 
   pub rest_back : (l : List Row) (most : ℕ) → length l ≤ most → after_names most (flatten (map name_field l) ++ r) ≡ r
   rest_back [] most f = ap (after_names most) none ∙ after_stop r e most

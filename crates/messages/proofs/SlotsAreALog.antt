@@ -12,10 +12,10 @@ use Rattle.names.specs.Names.{limit}
 use Rattle.numbers.proofs.Bools.{and_0, and_1}
 use Rattle.numbers.specs.Bytes.{Bytes}
 use Rattle.slots.specs.Tuples.{tuples_at}
-use Rattle.numbers.specs.Lists.{every}
+use Rattle.std.specs.List.{list_all}
 use Rattle.slots.specs.Slots.{head_size, depth_of, name_of, slot_of, keeps_slot}
 use Rattle.slots.proofs.RoundTrip.{kept}
-use Rattle.answers.specs.declared.Answer.TheVariants.{Accepted}
+use Rattle.std.specs.declared.result.Result.TheVariants.{Ok}
 use Rattle.pages.specs.Pages.{slots_of, name_in, names_of, parts_of, keeps_layout, rises, line_is_zero, is_log}
 use Rattle.pages.proofs.RoundTrip.{laid}
 use Rattle.messages.specs.declared.Numbers.{Numbers}
@@ -26,13 +26,13 @@ use Rattle.messages.proofs.TestsPassed.{ok_numbers, and_left}
 use Rattle.messages.proofs.CallsInverse.{may_again}
 
 -- the names of slots are names
-names_fit : (l : List Bytes) → every keeps_slot l ≡ true → every name_fits (map name_in (map slot_of l)) ≡ true
+names_fit : (l : List Bytes) → list_all keeps_slot l ≡ true → list_all name_fits (map name_in (map slot_of l)) ≡ true
 names_fit [] e = refl
 names_fit (x ∷ l) e =
-    let v = kept x (and_0 (keeps_slot x) (every keeps_slot l) e) in
+    let v = kept x (and_0 (keeps_slot x) (list_all keeps_slot l) e) in
     let d = v.fit in
     let f : length (name_of x) ≤ limit = let t = length-take (depth_of x) (tuples_at x head_size limit) in omega arith in
-    λ i. (v.named i && le-leb (length (name_of x)) limit f i) && names_fit l (and_1 (keeps_slot x) (every keeps_slot l) e) i
+    λ i. (v.named i && le-leb (length (name_of x)) limit f i) && names_fit l (and_1 (keeps_slot x) (list_all keeps_slot l) e) i
 
 -- the same tests in another order; n holds where y does
 order : (y k e a n w₁ w₂ r l z : Bool) → (y ≡ true → n ≡ true)
@@ -52,13 +52,13 @@ may_by x slots =
     let kind = is_kind x.kind in
     let epoch = is_epoch x.epoch in
     let author = is_author x.author in
-    let names = every name_fits (names_of slots) in
+    let names = list_all name_fits (names_of slots) in
     let line = is_line x.kind x.line in
-    let zeros = every line_is_zero (slots_of slots) in
+    let zeros = list_all line_is_zero (slots_of slots) in
     ap (λ (n : ℕ). layout && (kind && epoch && author && names && (leb 1 n && leb n m) && rises slots && line) && zeros) (length-map (slots_of slots) name_in)
     ∙ order layout kind epoch author names (leb 1 n) (leb n m) (rises slots) line zeros (λ h. names_fit (parts_of slots) (laid slots h).good)
 
-pub read_log : (s : Bytes) (room n : ℕ) → (read_outcome s room).answer ≡ Accepted n → is_log (read_outcome s room).bytes ≡ true
+pub read_log : (s : Bytes) (room n : ℕ) → (read_outcome s room).answer ≡ Ok n → is_log (read_outcome s room).bytes ≡ true
 read_log s room n h =
     let x = numbers_read s room in
     let slots = (read_outcome s room).bytes in

@@ -10,7 +10,7 @@ use Rattle.names.specs.Ordering.{rising}
 use Rattle.names.specs.Names.{within}
 use Rattle.numbers.proofs.Bools.{and_0, and_1}
 use Rattle.numbers.specs.Bytes.{Bytes}
-use Rattle.numbers.specs.Lists.{every}
+use Rattle.std.specs.List.{list_all}
 use Rattle.fields.specs.Fields.{stands}
 use Rattle.messages.specs.declared.Numbers.{Numbers}
 use Rattle.name_fields.specs.NameFields.{name_fits}
@@ -21,7 +21,7 @@ pub record Good (p : Parts) : Type 0 where
   pub kind : is_kind p.numbers.kind ≡ true
   pub epoch : is_epoch p.numbers.epoch ≡ true
   pub author : is_author p.numbers.author ≡ true
-  pub named : every name_fits p.names ≡ true
+  pub named : list_all name_fits p.names ≡ true
   pub some : 1 ≤ length p.names
   pub few : length p.names ≤ most_names p.numbers.kind
   pub rise : rising p.names ≡ true
@@ -35,7 +35,7 @@ good p h =
     let a = is_kind k in
     let b = is_epoch p.numbers.epoch in
     let c = is_author p.numbers.author in
-    let d = every name_fits p.names in
+    let d = list_all name_fits p.names in
     let e = within 1 (most_names k) n in
     let f = rising p.names in
     let g = is_line k p.numbers.line in

@@ -11,7 +11,7 @@ use Rattle.names.specs.Ordering.{Row}
 use Rattle.names.specs.Names.{within}
 use Rattle.numbers.proofs.Bools.{and_0, and_1}
 use Rattle.numbers.specs.Bytes.{Octets, bytes32}
-use Rattle.numbers.specs.Lists.{every}
+use Rattle.std.specs.List.{list_all}
 use Rattle.numbers.proofs.Lists.{flat, flat_none}
 use Rattle.numbers.proofs.Octets.{AllBytes, nil, byte, all_octets, join, two, four}
 use Rattle.fields.specs.Fields.{field_bytes}
@@ -25,11 +25,11 @@ use Rattle.messages.proofs.ReadBack.{split}
 pair_all : (x : Author) → x.node ≤ 65535 → x.sequence ≤ 4294967295 → AllBytes (pair_bytes x)
 pair_all x h g = join (two x.node (omega arith)) (four x.sequence (omega arith))
 
-names_all : (l : List Row) → every name_fits l ≡ true → AllBytes (flatten (map name_field l))
+names_all : (l : List Row) → list_all name_fits l ≡ true → AllBytes (flatten (map name_field l))
 names_all [] e = rw flat_none nil
 names_all (a ∷ l) e =
-    let here = name_field_all name_tag a (omega arith) (and_0 (name_fits a) (every name_fits l) e) in
-    rw (flat (name_field a) (map name_field l)) (join here (names_all l (and_1 (name_fits a) (every name_fits l) e)))
+    let here = name_field_all name_tag a (omega arith) (and_0 (name_fits a) (list_all name_fits l) e) in
+    rw (flat (name_field a) (map name_field l)) (join here (names_all l (and_1 (name_fits a) (list_all name_fits l) e)))
 
 line_all : (line : ℕ) → line ≤ 4294967295 → (b : Bool) → AllBytes (flatten (cond b (field_bytes line_tag (bytes32 line) ∷ []) []))
 line_all line h true =

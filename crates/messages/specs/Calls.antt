@@ -2,10 +2,10 @@
 use Rattle.std.specs.Prelude.{ℕ, [], ◌∷◌, map, Bool, ◌&&◌}
 use Rattle.names.specs.Ordering.{Row}
 use Rattle.numbers.specs.Bytes.{Bytes}
-use Rattle.numbers.specs.Lists.{every}
+use Rattle.std.specs.List.{list_all}
 use Rattle.slots.specs.Slots.{Slot}
-use Rattle.answers.specs.declared.Answer.{Answer}
-use Rattle.answers.specs.declared.Answer.TheVariants.{Accepted, Refused}
+use Rattle.answers.specs.Answers.{Answer}
+use Rattle.std.specs.declared.result.Result.TheVariants.{Ok, Err}
 use Rattle.answers.specs.declared.Refusal.TheVariants.{Malformed}
 use Rattle.answers.specs.Answers.{Outcome, ◌else◌, outcome}
 use Rattle.pages.specs.Pages.{slots_of, names_of, pieces, keeps_layout, line_is_zero}
@@ -28,8 +28,8 @@ abbrev pub zeros : Numbers
 zeros = record { kind = 0; epoch = record { node = 0; sequence = 0 }; author = record { node = 0; sequence = 0 }; line = 0 }
 
 abbrev pub given_by : Answer → Numbers → Numbers
-given_by (Accepted n) x = x
-given_by (Refused r) x = zeros
+given_by (Ok n) x = x
+given_by (Err r) x = zeros
 
 -- "Reading gives kind, epoch, author, line number (0 unless insert) and the names"
 abbrev pub numbers_read : Bytes → ℕ → Numbers
@@ -43,7 +43,7 @@ parts_given x slots = record { numbers = x; names = names_of slots }
 
 -- "15 for any parts that reading can't give: .. a slot's line number other than 0": reading gives slots, whose line numbers are 0
 abbrev pub may_write : Numbers → Bytes → Bool
-may_write x slots = keeps_layout slots && is_message (parts_given x slots) && every line_is_zero (slots_of slots)
+may_write x slots = keeps_layout slots && is_message (parts_given x slots) && list_all line_is_zero (slots_of slots)
 
 -- "write message 15, 8": the numbers and the slots into an output of so many bytes; the count is that of the bytes written
 unfoldable pub write_outcome : Numbers → Bytes → ℕ → Outcome

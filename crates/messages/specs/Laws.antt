@@ -3,7 +3,7 @@
 use Rattle.std.specs.Prelude.{ℕ, ◌*◌, ◌<◌, ◌≤◌, ◌≡◌, map, true, false, ◌↔◌, length}
 use Rattle.numbers.specs.Bytes.{Bytes, Octets}
 use Rattle.slots.specs.Slots.{slot_size}
-use Rattle.answers.specs.declared.Answer.TheVariants.{Accepted, Refused}
+use Rattle.std.specs.declared.result.Result.TheVariants.{Ok, Err}
 use Rattle.answers.specs.declared.Refusal.{Refusal}
 use Rattle.answers.specs.declared.Refusal.TheVariants.{Malformed, Short}
 use Rattle.pages.specs.Pages.{slots_of, is_log}
@@ -45,47 +45,47 @@ pub record LongestLaws : Type 0 where
 -- "read message 15, 8": the call read, given the bytes s and an output of so many bytes
 pub record ReadLaws (s : Bytes) (room : ℕ) : Type 0 where
   -- 15 exactly where the bytes are no message
-  pub malformed : ((read_outcome s room).answer ≡ Refused Malformed) ↔ (keeps_message s ≡ false)
+  pub malformed : ((read_outcome s room).answer ≡ Err Malformed) ↔ (keeps_message s ≡ false)
   -- 8 exactly where they are one, and the output is shorter than its names in slots
-  pub short : ((read_outcome s room).answer ≡ Refused Short) ↔ ((keeps_message s ≡ true) × (room < slot_size * length (names_in s)))
+  pub short : ((read_outcome s room).answer ≡ Err Short) ↔ ((keeps_message s ≡ true) × (room < slot_size * length (names_in s)))
   -- 0 exactly where they are one that fits, with the count of its names
-  pub accepted : (n : ℕ) → ((read_outcome s room).answer ≡ Accepted n)
+  pub accepted : (n : ℕ) → ((read_outcome s room).answer ≡ Ok n)
       ↔ ((keeps_message s ≡ true) × (slot_size * length (names_in s) ≤ room) × (n ≡ length (names_in s)))
   -- "a refused read gives kind, epoch, author and line number as zeros"
-  pub zeros_refused : (r : Refusal) → (read_outcome s room).answer ≡ Refused r → numbers_read s room ≡ zeros
+  pub zeros_refused : (r : Refusal) → (read_outcome s room).answer ≡ Err r → numbers_read s room ≡ zeros
   -- and an accepted one those of the message
-  pub numbers_accepted : (n : ℕ) → (read_outcome s room).answer ≡ Accepted n → numbers_read s room ≡ numbers_in s
+  pub numbers_accepted : (n : ℕ) → (read_outcome s room).answer ≡ Ok n → numbers_read s room ≡ numbers_in s
   -- "the names, in slots with line number 0"
-  pub slots : (n : ℕ) → (read_outcome s room).answer ≡ Accepted n → slots_of (read_outcome s room).bytes ≡ map bare (names_in s)
+  pub slots : (n : ℕ) → (read_outcome s room).answer ≡ Ok n → slots_of (read_outcome s room).bytes ≡ map bare (names_in s)
   -- they are a log
-  pub log : (n : ℕ) → (read_outcome s room).answer ≡ Accepted n → is_log (read_outcome s room).bytes ≡ true
+  pub log : (n : ℕ) → (read_outcome s room).answer ≡ Ok n → is_log (read_outcome s room).bytes ≡ true
   -- and with the numbers that it gives they may be written
-  pub may_again : (n : ℕ) → (read_outcome s room).answer ≡ Accepted n → may_write (numbers_read s room) (read_outcome s room).bytes ≡ true
+  pub may_again : (n : ℕ) → (read_outcome s room).answer ≡ Ok n → may_write (numbers_read s room) (read_outcome s room).bytes ≡ true
   -- which gives the message byte for byte, wherever it fits
-  pub write_read : (n : ℕ) → (read_outcome s room).answer ≡ Accepted n → Octets s → (room' : ℕ) → length s ≤ room'
-      → write_outcome (numbers_read s room) (read_outcome s room).bytes room' ≡ record { answer = Accepted (length s); bytes = s }
+  pub write_read : (n : ℕ) → (read_outcome s room).answer ≡ Ok n → Octets s → (room' : ℕ) → length s ≤ room'
+      → write_outcome (numbers_read s room) (read_outcome s room).bytes room' ≡ record { answer = Ok (length s); bytes = s }
 
 -- "write message 15, 8": the call write, given the numbers x, the slots and an output of so many bytes
 pub record WriteLaws (x : Numbers) (slots : Bytes) (room : ℕ) : Type 0 where
   -- 15 exactly where the parts given may not be written
-  pub malformed : ((write_outcome x slots room).answer ≡ Refused Malformed) ↔ (may_write x slots ≡ false)
+  pub malformed : ((write_outcome x slots room).answer ≡ Err Malformed) ↔ (may_write x slots ≡ false)
   -- 8 exactly where they may, and the output is shorter than the message
-  pub short : ((write_outcome x slots room).answer ≡ Refused Short)
+  pub short : ((write_outcome x slots room).answer ≡ Err Short)
       ↔ ((may_write x slots ≡ true) × (room < length (message_bytes (parts_given x slots))))
   -- 0 exactly where they may and the message fits, with the count of its bytes
-  pub accepted : (n : ℕ) → ((write_outcome x slots room).answer ≡ Accepted n)
+  pub accepted : (n : ℕ) → ((write_outcome x slots room).answer ≡ Ok n)
       ↔ ((may_write x slots ≡ true) × (length (message_bytes (parts_given x slots)) ≤ room) × (n ≡ length (message_bytes (parts_given x slots))))
   -- what was written is read back, the slots byte for byte, wherever they fit
-  pub read_written : (n : ℕ) → (write_outcome x slots room).answer ≡ Accepted n → Octets slots → (room' : ℕ) → length slots ≤ room'
-      → read_outcome (write_outcome x slots room).bytes room' ≡ record { answer = Accepted (length (slots_of slots)); bytes = slots }
+  pub read_written : (n : ℕ) → (write_outcome x slots room).answer ≡ Ok n → Octets slots → (room' : ℕ) → length slots ≤ room'
+      → read_outcome (write_outcome x slots room).bytes room' ≡ record { answer = Ok (length (slots_of slots)); bytes = slots }
   -- and the numbers
-  pub numbers_written : (n : ℕ) → (write_outcome x slots room).answer ≡ Accepted n → Octets slots → (room' : ℕ) → length slots ≤ room'
+  pub numbers_written : (n : ℕ) → (write_outcome x slots room).answer ≡ Ok n → Octets slots → (room' : ℕ) → length slots ≤ room'
       → numbers_read (write_outcome x slots room).bytes room' ≡ x
 
 -- the numbers x and the slots are what reading gives, of some bytes
 abbrev pub Readable : Numbers → Bytes → Type 0
 Readable x slots =
-    (s : Bytes) × (room : ℕ) × (n : ℕ) × Octets s × ((read_outcome s room).answer ≡ Accepted n) × (numbers_read s room ≡ x)
+    (s : Bytes) × (room : ℕ) × (n : ℕ) × Octets s × ((read_outcome s room).answer ≡ Ok n) × (numbers_read s room ≡ x)
     × ((read_outcome s room).bytes ≡ slots)
 
 pub record Laws : Type 0 where

@@ -6,7 +6,7 @@ use Rattle.names.specs.Ordering.{Row, rising}
 use Rattle.names.specs.Names.{limit, within}
 use Rattle.numbers.specs.Bytes.{Bytes, at16, at32, bytes16, bytes32}
 use Rattle.slots.specs.Tuples.{tuple_size}
-use Rattle.numbers.specs.Lists.{every}
+use Rattle.std.specs.List.{list_all}
 use Rattle.pages.specs.Pages.{max_slots}
 use Rattle.messages.specs.declared.Numbers.{Numbers}
 use Rattle.fields.specs.Fields.{field_head, after_field, stands, field_bytes, nothing}
@@ -83,7 +83,7 @@ is_line kind line = leb line 4294967295 && (eqb kind insert || eqb line 0)
 -- .. a line number other than 0 where the kind isn't insert". That the names rise is asked of every kind: one name by itself does.
 unfoldable pub is_message : Parts → Bool
 is_message p =
-    is_kind p.numbers.kind && is_epoch p.numbers.epoch && is_author p.numbers.author && every name_fits p.names
+    is_kind p.numbers.kind && is_epoch p.numbers.epoch && is_author p.numbers.author && list_all name_fits p.names
     && within 1 (most_names p.numbers.kind) (length p.names) && rising p.names && is_line p.numbers.kind p.numbers.line
 
 -- ── the encoder ──

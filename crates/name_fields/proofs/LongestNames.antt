@@ -10,7 +10,7 @@ use lib.ListN.{length, replicate}
 use Rattle.names.specs.declared.Tuple.{Tuple}
 use Rattle.names.specs.Ordering.{Row, Rising, none, one, more, sequence, differ}
 use Rattle.names.specs.Names.{limit, is_name, ends_well, ordinary_from}
-use Rattle.numbers.specs.Lists.{every}
+use Rattle.std.specs.List.{list_all}
 use Rattle.name_fields.specs.NameFields.{name_fits}
 
 unfoldable pub step : ℕ → Tuple
@@ -33,7 +33,7 @@ deep_fits : (k : ℕ) → k ≤ 4294967295 → name_fits (deep k) ≡ true
 unfolding deep step is_name ends_well ordinary_from
 deep_fits k h = simp (le-leb k 4294967295 h)
 
-pub deeps_fit : (n k : ℕ) → k + n ≤ 4294967295 → every name_fits (deeps n k) ≡ true
+pub deeps_fit : (n k : ℕ) → k + n ≤ 4294967295 → list_all name_fits (deeps n k) ≡ true
 unfolding deeps
 deeps_fit zero k h = refl
 deeps_fit (suc n) k h = λ i. deep_fits k (omega arith) i && deeps_fit n (suc k) (omega arith) i

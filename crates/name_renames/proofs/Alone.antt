@@ -16,7 +16,7 @@ use Rattle.names.specs.declared.Author.{Author}
 use Rattle.names.specs.declared.Tuple.{Tuple}
 use Rattle.names.specs.Ordering.{Row, up, ◌<ᵗ◌, position, node, sequence, offset, ◌<ⁿ◌, differ, same, ◌≤ⁿ◌, less, equal, Rising}
 use Rattle.names.specs.Names.{limit, fits}
-use Rattle.numbers.specs.Lists.{every}
+use Rattle.std.specs.List.{list_all}
 use Rattle.numbers.proofs.Bools.{and_0, and_1}
 use Rattle.numbers.proofs.Every.{every_each}
 use Rattle.names.proofs.Laws.{<ⁿ_trans, <ⁿ_irrefl, <≤_trans, ≤<_trans}
@@ -201,7 +201,7 @@ module _ (author : Author) (log : List Row) where
     alone_is = placed_is (placed c n a)
 
     -- So it fits, where the names of the log and c fit.
-    pub alone_fits : every fits log ≡ true → fits c ≡ true → fits (take_back author log c) ≡ true
+    pub alone_fits : list_all fits log ≡ true → fits c ≡ true → fits (take_back author log c) ≡ true
     alone_fits e f = go alone_is
       where
         go : {x : Row} → Stays log c x → fits x ≡ true

@@ -13,7 +13,7 @@ use lib.ListN.{length, drop, get_or, length-drop, drop_of_length-le}
 use lib.Signed.{non_neg}
 use Rattle.names.specs.declared.Author.{Author}
 use Rattle.names.specs.declared.Tuple.{Tuple}
-use Rattle.names.specs.declared.Order.{Order}
+use Rattle.std.specs.declared.cmp.Ordering.{Ordering}
 use Rattle.names.specs.Ordering.{Row, compare_tuples, up, across, ◌<ᵗ◌, position, node, sequence, offset, ◌<ⁿ◌, differ, same, ◌≤ⁿ◌, less, equal}
 use Rattle.names.specs.Names.{m}
 use Rattle.names.proofs.Laws.{<ᶻ_irrefl, <ⁿ_irrefl, ≤<_trans, Tri, below, level, above, tri_t}
@@ -76,7 +76,7 @@ module _ (p : ℕ) (author : Author) where
       by_offset (negsuc n) e = too_low (rw e (offset refl refl refl across))
       by_offset (pos k) e = record { k = k; is = ap (λ (u : Tuple). u ∷ t) e; most = most k e; room = room k e }
 
-      by : (o : Order) → Tri ◌<ᵗ◌ h (lead p author h.offset) o → Within last (h ∷ t)
+      by : (o : Ordering) → Tri ◌<ᵗ◌ h (lead p author h.offset) o → Within last (h ∷ t)
       by _ (below i) = too_low (front_below (pos 0) i)
       by _ (level e) = by_offset h.offset e
       by _ (above i) = too_high (differ (front_above (pos last) i))

@@ -4,8 +4,8 @@ use Prim.Native.Nat.{ℕ, suc, ◌+◌, ◌<◌, ◌≤◌}
 use native.Mathlib.Omega.{arith}
 use lib.ListN.{length, length-append}
 use Rattle.names.specs.declared.Author.{Author}
-use Rattle.names.specs.declared.Order.{Order}
-use Rattle.names.specs.declared.Order.TheVariants.{Less, Same, More}
+use Rattle.std.specs.declared.cmp.Ordering.{Ordering}
+use Rattle.std.specs.declared.cmp.Ordering.TheVariants.{Less, Equal, Greater}
 use Rattle.names.specs.Ordering.{Row, compare_rows}
 use Rattle.names.specs.Names.{m, M, one_below}
 use Rattle.names.proofs.Laws.{below_length}
@@ -14,10 +14,10 @@ use Rattle.name_renames.proofs.Lists.{at}
 use Rattle.name_renames.proofs.Walk.{StripBelow, kept_below, cut_below, strip_below_lem, StripAbove, kept_above, cut_above, strip_above_lem}
 
 -- whichever of three is chosen, it is not longer than the longest may be
-chosen : (n : ℕ) (o : Order) (a b c : Row) → length a ≤ n → length b ≤ n → length c ≤ n → length (choose o a b c) ≤ n
+chosen : (n : ℕ) (o : Ordering) (a b c : Row) → length a ≤ n → length b ≤ n → length c ≤ n → length (choose o a b c) ≤ n
 chosen n Less a b c p q r = p
-chosen n Same a b c p q r = q
-chosen n More a b c p q r = r
+chosen n Equal a b c p q r = q
+chosen n Greater a b c p q r = r
 
 module _ (most bound : ℕ) where
   -- a row that is not too long

@@ -7,8 +7,8 @@ use mathlib.Core.List.{List, [], ◌∷◌, map}
 use Prim.Native.Nat.{ℕ, suc, ◌<◌}
 use lib.IntN.{ℤ, pos, negsuc}
 use Rattle.names.specs.declared.Author.{Author}
-use Rattle.names.specs.declared.Order.{Order}
-use Rattle.names.specs.declared.Order.TheVariants.{Less, Same, More}
+use Rattle.std.specs.declared.cmp.Ordering.{Ordering}
+use Rattle.std.specs.declared.cmp.Ordering.TheVariants.{Less, Equal, Greater}
 use Rattle.names.specs.Ordering.{Row, compare_ℕ, ◌<ᶻ◌, across, position, node, sequence, offset, ◌<ⁿ◌, ends, differ, same, Rising}
 use Rattle.names.proofs.Laws.{Tri, below, level, above, tri_ℕ, <ⁿ_trans, <ⁿ_irrefl, <ᶻ_trans, row_less, row_more}
 use Rattle.name_renames.specs.declared.Case.{Case}
@@ -35,20 +35,20 @@ module _ (p : ℕ) (author : Author) where
   side [] f = inl (λ z y. ends)
   side (t ∷ x) f = by_position (compare_ℕ t.position p) (tri_ℕ t.position p)
     where
-      by_sequence : (o : Order) → t.position ≡ p → t.node ≡ author.node → Tri ◌<◌ t.sequence author.sequence o → Side (t ∷ x)
+      by_sequence : (o : Ordering) → t.position ≡ p → t.node ≡ author.node → Tri ◌<◌ t.sequence author.sequence o → Side (t ∷ x)
       by_sequence Less e d (below h) = inl (λ z y. differ (sequence e d h))
-      by_sequence Same e d (level h) = absurd (f (d, h))
-      by_sequence More e d (above h) = inr (λ z y. differ (sequence (sym e) (sym d) h))
+      by_sequence Equal e d (level h) = absurd (f (d, h))
+      by_sequence Greater e d (above h) = inr (λ z y. differ (sequence (sym e) (sym d) h))
 
-      by_node : (o : Order) → t.position ≡ p → Tri ◌<◌ t.node author.node o → Side (t ∷ x)
+      by_node : (o : Ordering) → t.position ≡ p → Tri ◌<◌ t.node author.node o → Side (t ∷ x)
       by_node Less e (below h) = inl (λ z y. differ (node e h))
-      by_node Same e (level d) = by_sequence (compare_ℕ t.sequence author.sequence) e d (tri_ℕ t.sequence author.sequence)
-      by_node More e (above h) = inr (λ z y. differ (node (sym e) h))
+      by_node Equal e (level d) = by_sequence (compare_ℕ t.sequence author.sequence) e d (tri_ℕ t.sequence author.sequence)
+      by_node Greater e (above h) = inr (λ z y. differ (node (sym e) h))
 
-      by_position : (o : Order) → Tri ◌<◌ t.position p o → Side (t ∷ x)
+      by_position : (o : Ordering) → Tri ◌<◌ t.position p o → Side (t ∷ x)
       by_position Less (below h) = inl (λ z y. differ (position h))
-      by_position Same (level e) = by_node (compare_ℕ t.node author.node) e (tri_ℕ t.node author.node)
-      by_position More (above h) = inr (λ z y. differ (position h))
+      by_position Equal (level e) = by_node (compare_ℕ t.node author.node) e (tri_ℕ t.node author.node)
+      by_position Greater (above h) = inr (λ z y. differ (position h))
 
   -- ── the case of a name above r(k), with what places it there; the list is what follows r(k) in the log ──
 

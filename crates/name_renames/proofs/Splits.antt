@@ -6,20 +6,20 @@ use Prim.Native.Nat.{suc}
 use native.Mathlib.Omega.{arith}
 use lib.IntN.{pos}
 use Rattle.names.specs.declared.Tuple.{Tuple}
-use Rattle.names.specs.declared.Order.{Order}
-use Rattle.names.specs.declared.Order.TheVariants.{Less, Same, More}
+use Rattle.std.specs.declared.cmp.Ordering.{Ordering}
+use Rattle.std.specs.declared.cmp.Ordering.TheVariants.{Less, Equal, Greater}
 use Rattle.names.specs.Ordering.{Row, compare_tuples, compare_rows, ◌<ᶻ◌, up, ◌<ᵗ◌, ◌<ⁿ◌, ends, differ, same, ◌≤ⁿ◌, less, equal}
 use Rattle.names.proofs.Laws.{Tri, below, level, above, tri_t, tri_n, row_less, row_more, row_same, <ᵗ_irrefl, <ⁿ_trans, <ⁿ_irrefl, <≤_trans}
 use Rattle.name_renames.specs.Renaming.{if_below, if_above}
 
 -- ── below, the same, above ──
 
-pub data Split {A : Type 0} (R : A → A → Type 0) (compare : A → A → Order) (a b : A) : Type 0 where
+pub data Split {A : Type 0} (R : A → A → Type 0) (compare : A → A → Ordering) (a b : A) : Type 0 where
   is_below : R a b → compare a b ≡ Less → Split R compare a b
-  is_level : a ≡ b → compare a b ≡ Same → Split R compare a b
-  is_above : R b a → compare a b ≡ More → Split R compare a b
+  is_level : a ≡ b → compare a b ≡ Equal → Split R compare a b
+  is_above : R b a → compare a b ≡ Greater → Split R compare a b
 
-split : {A : Type 0} (R : A → A → Type 0) (compare : A → A → Order) (a b : A) {o : Order} → Tri R a b o → compare a b ≡ o → Split R compare a b
+split : {A : Type 0} (R : A → A → Type 0) (compare : A → A → Ordering) (a b : A) {o : Ordering} → Tri R a b o → compare a b ≡ o → Split R compare a b
 split R compare a b (below h) e = is_below h e
 split R compare a b (level h) e = is_level h e
 split R compare a b (above h) e = is_above h e

@@ -2,13 +2,14 @@
 -- marker is put before it. Document 01, "Taking it back": of each bullet the case in which the result is r(k), v or t.
 use Rattle.std.specs.Prelude.{ℕ, ◌+◌, ◌-◌, ◌<◌, ◌≤◌, ◌≡◌, ◌⊎◌, List, [], Bool, ◌&&◌, ◌||◌, ltb, nat_abs, length, get_or, drop}
 use Rattle.names.specs.declared.Author.{Author}
-use Rattle.names.specs.Ordering.{Row, compare_rows, is_less}
+use Rattle.names.specs.Ordering.{Row, compare_rows}
+use Rattle.std.specs.Ordering.{is_lt}
 use Rattle.names.specs.Names.{m}
 use Rattle.name_renames.specs.Renaming.{if_below, if_above, first_position, N, strip_below, strip_above}
 
 -- whether x is below y, and whether it is above
 abbrev pub is_below : Row → Row → Bool
-is_below x y = is_less (compare_rows x y)
+is_below x y = is_lt (compare_rows x y)
 
 abbrev pub is_above : Row → Row → Bool
 is_above x y = is_below y x

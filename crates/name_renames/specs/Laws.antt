@@ -2,7 +2,7 @@
 -- end markers. proofs/Laws.antt has that all of it holds (`laws`).
 use Rattle.std.specs.Prelude.{ℕ, ◌+◌, ◌<◌, ◌≤◌, ◌≡◌, List, [], ◌∷◌, ◌++◌, Bool, true, ◌&&◌, length, leb, pos}
 use Rattle.names.specs.declared.Author.{Author}
-use Rattle.names.specs.declared.Order.TheVariants.{Less, More}
+use Rattle.std.specs.declared.cmp.Ordering.TheVariants.{Less, Greater}
 use Rattle.names.specs.Ordering.{Row, compare_rows, Rising, rising}
 use Rattle.names.specs.Names.{m, within, ordinary, is_name}
 use Rattle.name_renames.specs.Renaming.{rename, take_back, fresh}
@@ -78,7 +78,7 @@ module _ (author : Author) (log : List Row) where
     pub names : are_names (c ∷ d ∷ log) ≡ true
     pub log_rises : rising log ≡ true
     pub child : compare_rows c d ≡ Less
-    pub back : compare_rows (take_back author log c) (take_back author log d) ≡ More
+    pub back : compare_rows (take_back author log c) (take_back author log d) ≡ Greater
 
 -- ── all of it, of every author and every log ──
 

@@ -5,8 +5,8 @@
 use Rattle.std.specs.Prelude.{ℕ, suc, List, [], ◌∷◌, ◌++◌, Bool, true, ◌&&◌, not, eqb, ℤ, pos, negsuc}
 use Rattle.names.specs.declared.Tuple.{Tuple}
 use Rattle.names.specs.declared.Author.{Author}
-use Rattle.names.specs.declared.Order.{Order}
-use Rattle.names.specs.declared.Order.TheVariants.{Less, Same, More}
+use Rattle.std.specs.declared.cmp.Ordering.{Ordering}
+use Rattle.std.specs.declared.cmp.Ordering.TheVariants.{Less, Equal, Greater}
 use Rattle.name_renames.specs.declared.Case.{Case}
 use Rattle.name_renames.specs.declared.Case.TheVariants.{KeepBelow, PutBelow, Logged, Between, PutAbove, KeepAbove}
 use Rattle.names.specs.Ordering.{Row, compare_tuples, compare_rows}
@@ -15,10 +15,10 @@ use Rattle.names.specs.Names.{m, M, one_below}
 -- ── by a comparison ──
 
 -- one of three: where the first is below the second, where they are the same, where it is above
-abbrev pub choose : {A : Type 0} → Order → A → A → A → A
+abbrev pub choose : {A : Type 0} → Ordering → A → A → A → A
 choose Less a b c = a
-choose Same a b c = b
-choose More a b c = c
+choose Equal a b c = b
+choose Greater a b c = c
 
 -- a where the name x is below y, otherwise b
 abbrev pub if_below : {A : Type 0} → Row → Row → A → A → A

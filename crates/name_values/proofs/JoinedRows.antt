@@ -1,7 +1,7 @@
 -- Rows of tuples as values with zeros after them: their row, one tuple more, and two joined. Assumes nothing.
+use Rattle.std.specs.declared.option.Option.TheVariants.{Some, None}
 use mathlib.Core.Path.{◌≡◌, refl, ◌∙◌, sym, ap}
 use mathlib.Core.List.{[], ◌∷◌, ◌++◌, append_assoc}
-use mathlib.Core.Bool.{Bool, true, false, cond}
 use Prim.Native.Nat.{ℕ, suc, ◌+◌, ◌-◌, ◌<◌, ◌≤◌}
 use native.Mathlib.Numerals.{add-one}
 use native.Mathlib.Omega.{arith}
@@ -11,7 +11,7 @@ use lib.Seq.{take-append_seam, set_at, take-suc}
 use Rattle.names.specs.declared.Tuple.{Tuple}
 use Rattle.names.specs.declared.Name.{Name}
 use Rattle.names.specs.Ordering.{Row}
-use Rattle.names.specs.Names.{limit, fits, row_of, value_of, joined, m}
+use Rattle.names.specs.Names.{limit, row_of, value_of, joined, m}
 
 pub value_row : (a : Row) → row_of (value_of a) ≡ a
 value_row a = take-append_seam a (replicate (limit - length a) m)
@@ -46,14 +46,8 @@ take_more a l i h =
     append_assoc a (take i l) (get_or l i m ∷ []) ∙ ap (λ (r : Row). a ++ r) (sym (ap (λ (n : ℕ). take n l) (add-one i) ∙ take-suc l i m h))
 
 module _ (a b : Row) where
-  pub joined_fits : length a + length b ≤ limit → true ≡ fits (a ++ b)
-  joined_fits h = sym (le-leb (length (a ++ b)) limit (omega (arith, length-append a b)))
+  pub joined_all : length a + length b ≤ limit → Some (value_of (a ++ b)) ≡ joined a b
+  joined_all h = simp (le-leb (length (a ++ b)) limit (omega (arith, length-append a b)))
 
-  pub joined_all : length a + length b ≤ limit → a ++ b ≡ joined a b
-  joined_all h = ap (λ (t : Bool). cond t (a ++ b) []) (joined_fits h)
-
-  pub joined_deep : limit < length a + length b → false ≡ fits (a ++ b)
-  joined_deep h = sym (lt-leb (length (a ++ b)) limit (omega (arith, length-append a b)))
-
-  pub joined_none : limit < length a + length b → [] ≡ joined a b
-  joined_none h = ap (λ (t : Bool). cond t (a ++ b) []) (joined_deep h)
+  pub joined_none : limit < length a + length b → None ≡ joined a b
+  joined_none h = simp (lt-leb (length (a ++ b)) limit (omega (arith, length-append a b)))

@@ -23,7 +23,7 @@ pub empty_settled : (κs : _) (a : _) (r : _) (s : _) (r' : _) (s' : _) → empt
 empty_settled κs a r s r' s' p q = one p q
 
 pub join_by_settled : (κs : _) (a : _) (r : _) (s : _) (r' : _) (s' : _) → join_by.Learnt κs a r s → join_by.Learnt κs a r' s' → r ≡ r'
-join_by_settled κs a r s r' s' p q = λ i. record { fits = one p.0 q.0 i; name = one p.1 q.1 i }
+join_by_settled κs a r s r' s' p q = one p q
 
 pub not_below_zero_settled : (κs : _) (a : _) (r : _) (s : _) (r' : _) (s' : _) → not-below-zero.Learnt κs a r s → not-below-zero.Learnt κs a r' s' → r ≡ r'
 not_below_zero_settled κs a r s r' s' p q = one p q

@@ -4,11 +4,10 @@
 #![tactic(auto)]
 
 ghost use Rattle.std.specs.Prelude.{◌≡◌, [], ◌∷◌, ◌++◌, true, ◌+◌, ◌≤◌, ◌<◌, length};
-ghost use Rattle.std.proofs.Math.IntN.{pred_ℤ};
 ghost use Rattle.std.specs.Int.Signed.{non_neg};
-ghost use Rattle.names.specs.Names.{limit, fits, row_of, value_of, joined, lowered, one_below, is_name, m, M};
+ghost use Rattle.names.specs.Names.{limit, row_of, value_of, joined, lowered, one_below, is_name, m, M};
 
-use names::{Joined, LIMIT, Name, Tuple};
+use names::{LIMIT, Name, Tuple};
 
 // "Two end markers exist": m, below every ordinary tuple ..
 pub fn low_marker() -> Tuple
@@ -38,8 +37,10 @@ pub fn high_marker() -> Tuple
 pub fn empty() -> Name
     ensures { result ≡ value_of [] }
 {
-    let tuples = [low_marker(); LIMIT];
-    Name { depth: 0, tuples }
+    Name {
+        depth: 0,
+        tuples: [low_marker(); LIMIT],
+    }
 }
 
 // One tuple more, of a row with zeros after it.
@@ -47,11 +48,10 @@ pub fn push(a: Name, t: Tuple) -> Name
     requires { (a ≡ value_of (row_of a)) × (length (row_of a) < limit) }
     ensures { result ≡ value_of (row_of a ++ (t ∷ [])) }
 {
-    let n = a.depth;
     let mut tuples = a.tuples;
-    tuples[n] = t;
+    tuples[a.depth] = t;
     Name {
-        depth: n + 1,
+        depth: a.depth + 1,
         tuples,
     }
 }
@@ -68,40 +68,27 @@ fn append(a: Name, b: Name) -> Name
     requires { (a ≡ value_of (row_of a)) × (length (row_of a) + length (row_of b) ≤ limit) }
     ensures { result ≡ value_of (row_of a ++ row_of b) }
 {
-    let t = b.tuples;
-    let n = names::tuples_in(b);
     let mut r = a;
-    let mut i: usize = 0;
-    while i < n {
-        r = push(r, t[i]);
-        i += 1;
+    for t in b.row() {
+        r = push(r, *t);
     }
     r
 }
 
 // "a·b means the tuples of a, then those of b": a·t·b, with the tuple t between. Where these are more than LIMIT there is no name.
-pub fn join_by(a: Name, t: Tuple, b: Name) -> Joined
-    ensures { (result.fits ≡ fits (row_of a ++ (t ∷ row_of b))) × (result.name ≡ value_of (joined (row_of a) (t ∷ row_of b))) }
+pub fn join_by(a: Name, t: Tuple, b: Name) -> Option<Name>
+    ensures { result ≡ joined (row_of a) (t ∷ row_of b) }
 {
     if LIMIT <= names::tuples_in(a) + names::tuples_in(b) {
-        let name = empty();
-        return Joined { fits: false, name };
+        return None;
     }
-    let name = append(push(append(empty(), a), t), b);
-    Joined { fits: true, name }
+    Some(append(push(append(empty(), a), t), b))
 }
 
 pub fn not_below_zero(z: i32) -> bool
     ensures { result ≡ non_neg z }
 {
-    0 <= z
-}
-
-fn one_less(z: i32) -> i32
-    requires { non_neg z ≡ true }
-    ensures { result ≡ pred_ℤ z }
-{
-    z - 1
+    !z.is_negative()
 }
 
 // A tuple one offset lower.
@@ -109,12 +96,9 @@ pub fn one_lower(t: Tuple) -> Tuple
     requires { non_neg t.offset ≡ true }
     ensures { result ≡ lowered t }
 {
-    let offset = one_less(t.offset);
     Tuple {
-        position: t.position,
-        node: t.node,
-        sequence: t.sequence,
-        offset,
+        offset: t.offset - 1,
+        ..t
     }
 }
 

@@ -5,8 +5,9 @@ use mathlib.Core.Logic.{inl, inr}
 use Prim.Native.Nat.{ℕ, ◌+◌, ◌*◌, ◌<◌}
 use native.Mathlib.Nat.{suc-mul, mul-le-mul_right}
 use native.Mathlib.Omega.{arith}
-use Rattle.names.specs.declared.Order.{Order}
-use Rattle.names.specs.Ordering.{compare_ℕ, then}
+use Rattle.std.specs.declared.cmp.Ordering.{Ordering}
+use Rattle.names.specs.Ordering.{compare_ℕ}
+use Rattle.std.specs.Ordering.{ordering_then}
 use Rattle.names.proofs.Laws.{ℕ_less, ℕ_same, ℕ_more, ℕ_cases}
 
 -- two pairs of numbers that lie the same way
@@ -16,12 +17,12 @@ compare_by x y b d l s g = elim (ℕ_cases b d) [
   | inr r ↦ elim r [ inl h ↦ ℕ_same x y (s h) ∙ sym (ℕ_same b d h) | inr h ↦ ℕ_more x y (g h) ∙ sym (ℕ_more b d h) ]
 ]
 
-high_first : (x y a c : ℕ) (o : Order) → (a < c → x < y) → (a ≡ c → compare_ℕ x y ≡ o) → (c < a → y < x) → compare_ℕ x y ≡ then (compare_ℕ a c) o
+high_first : (x y a c : ℕ) (o : Ordering) → (a < c → x < y) → (a ≡ c → compare_ℕ x y ≡ o) → (c < a → y < x) → compare_ℕ x y ≡ ordering_then (compare_ℕ a c) o
 high_first x y a c o l s g = elim (ℕ_cases a c) [
-  | inl h ↦ ℕ_less x y (l h) ∙ sym (ap (λ (w : Order). then w o) (ℕ_less a c h))
+  | inl h ↦ ℕ_less x y (l h) ∙ sym (ap (λ (w : Ordering). ordering_then w o) (ℕ_less a c h))
   | inr r ↦ elim r [
-    | inl h ↦ s h ∙ sym (ap (λ (w : Order). then w o) (ℕ_same a c h))
-    | inr h ↦ ℕ_more x y (g h) ∙ sym (ap (λ (w : Order). then w o) (ℕ_more a c h))
+    | inl h ↦ s h ∙ sym (ap (λ (w : Ordering). ordering_then w o) (ℕ_same a c h))
+    | inr h ↦ ℕ_more x y (g h) ∙ sym (ap (λ (w : Ordering). ordering_then w o) (ℕ_more a c h))
   ]
 ]
 
@@ -32,7 +33,7 @@ lower w a b c d h k =
     let f = mul-le-mul_right w k in
     omega arith
 
-pub digits : (w a b c d : ℕ) → b < w → d < w → compare_ℕ (a * w + b) (c * w + d) ≡ then (compare_ℕ a c) (compare_ℕ b d)
+pub digits : (w a b c d : ℕ) → b < w → d < w → compare_ℕ (a * w + b) (c * w + d) ≡ ordering_then (compare_ℕ a c) (compare_ℕ b d)
 digits w a b c d p q =
     high_first (a * w + b) (c * w + d) a c (compare_ℕ b d) (lower w a b c d p)
     (λ h. let e = ap (λ (n : ℕ). n * w) h in compare_by (a * w + b) (c * w + d) b d (λ k. omega arith) (λ k. omega arith) (λ k. omega arith))

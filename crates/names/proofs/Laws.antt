@@ -14,17 +14,18 @@ use lib.IntN.{ℤ, pos, negsuc, pred_ℤ}
 use lib.ListN.{length, get_or}
 use Rattle.numbers.proofs.Bools.{and_0, and_1}
 use Rattle.names.specs.declared.Tuple.{Tuple}
-use Rattle.names.specs.declared.Order.{Order}
-use Rattle.names.specs.declared.Order.TheVariants.{Less, Same, More}
-use Rattle.names.specs.Ordering.{Row, compare_ℕ, compare_ℤ, then, compare_tuples, compare_rows, is_less, rising, ◌<ᶻ◌, up, across, down, ◌<ᵗ◌, position, node, sequence, offset, ◌<ⁿ◌, ends, differ, same, ◌≤ⁿ◌, less, equal, Rising, none, one, more}
+use Rattle.std.specs.declared.cmp.Ordering.{Ordering}
+use Rattle.std.specs.declared.cmp.Ordering.TheVariants.{Less, Equal, Greater}
+use Rattle.names.specs.Ordering.{Row, compare_ℕ, compare_ℤ, compare_tuples, compare_rows, rising, ◌<ᶻ◌, up, across, down, ◌<ᵗ◌, position, node, sequence, offset, ◌<ⁿ◌, ends, differ, same, ◌≤ⁿ◌, less, equal, Rising, none, one, more}
+use Rattle.std.specs.Ordering.{ordering_then, is_lt}
 use Rattle.names.specs.Names.{lowered, one_below}
 
 -- ── "this decides, else that" ──
 
-pub then_same : (o : Order) → then o Same ≡ o
+pub then_same : (o : Ordering) → ordering_then o Equal ≡ o
 then_same Less = refl
-then_same Same = refl
-then_same More = refl
+then_same Equal = refl
+then_same Greater = refl
 
 -- ── numbers ──
 
@@ -32,20 +33,20 @@ module _ (a b : ℕ) where
   pub ℕ_less : a < b → compare_ℕ a b ≡ Less
   ℕ_less h = simp (lt-ltb a b h)
 
-  pub ℕ_same : a ≡ b → compare_ℕ a b ≡ Same
+  pub ℕ_same : a ≡ b → compare_ℕ a b ≡ Equal
   ℕ_same h = let p : b ≤ a = omega arith in let q : a ≤ b = omega arith in simp (le-ltb a b p, le-ltb b a q)
 
-  pub ℕ_more : b < a → compare_ℕ a b ≡ More
+  pub ℕ_more : b < a → compare_ℕ a b ≡ Greater
   ℕ_more h = let p : b ≤ a = omega arith in simp (le-ltb a b p, lt-ltb b a h)
 
   pub ℕ_cases : (a < b) ⊎ ((a ≡ b) ⊎ (b < a))
   ℕ_cases = elim (dec_lt a b) [ yes h ↦ inl h | no h ↦ elim (dec_lt b a) [ yes k ↦ inr (inr k) | no k ↦ inr (inl (omega arith)) ] ]
 
 -- what an answer of a comparison says
-pub data Tri {A : Type 0} (R : A → A → Type 0) (a b : A) : Order → Type 0 where
+pub data Tri {A : Type 0} (R : A → A → Type 0) (a b : A) : Ordering → Type 0 where
   below : R a b → Tri R a b Less
-  level : a ≡ b → Tri R a b Same
-  above : R b a → Tri R a b More
+  level : a ≡ b → Tri R a b Equal
+  above : R b a → Tri R a b Greater
 
 pub tri_ℕ : (a b : ℕ) → Tri ◌<◌ a b (compare_ℕ a b)
 tri_ℕ a b = elim (ℕ_cases a b) [
@@ -56,18 +57,18 @@ tri_ℕ a b = elim (ℕ_cases a b) [
 pub tri_ℤ : (a b : ℤ) → Tri ◌<ᶻ◌ a b (compare_ℤ a b)
 tri_ℤ (pos a) (pos b) = go (compare_ℕ a b) (tri_ℕ a b)
   where
-    go : (o : Order) → Tri ◌<◌ a b o → Tri ◌<ᶻ◌ (pos a) (pos b) o
+    go : (o : Ordering) → Tri ◌<◌ a b o → Tri ◌<ᶻ◌ (pos a) (pos b) o
     go Less (below h) = below (up h)
-    go Same (level e) = level (ap pos e)
-    go More (above h) = above (up h)
+    go Equal (level e) = level (ap pos e)
+    go Greater (above h) = above (up h)
 tri_ℤ (pos a) (negsuc b) = above across
 tri_ℤ (negsuc a) (pos b) = below across
 tri_ℤ (negsuc a) (negsuc b) = go (compare_ℕ b a) (tri_ℕ b a)
   where
-    go : (o : Order) → Tri ◌<◌ b a o → Tri ◌<ᶻ◌ (negsuc a) (negsuc b) o
+    go : (o : Ordering) → Tri ◌<◌ b a o → Tri ◌<ᶻ◌ (negsuc a) (negsuc b) o
     go Less (below h) = below (down h)
-    go Same (level e) = level (ap negsuc (sym e))
-    go More (above h) = above (down h)
+    go Equal (level e) = level (ap negsuc (sym e))
+    go Greater (above h) = above (down h)
 
 pub <ᶻ_trans : {a b c : ℤ} → a <ᶻ b → b <ᶻ c → a <ᶻ c
 <ᶻ_trans (up h) (up k) = up (lt_trans h k)
@@ -112,25 +113,25 @@ pub tri_t : (s t : Tuple) → Tri ◌<ᵗ◌ s t (compare_tuples s t)
 unfolding compare_tuples
 tri_t s t = p (compare_ℕ s.position t.position) (tri_ℕ s.position t.position)
   where
-    z : {o : Order} → s.position ≡ t.position → s.node ≡ t.node → s.sequence ≡ t.sequence → Tri ◌<ᶻ◌ s.offset t.offset o → Tri ◌<ᵗ◌ s t o
+    z : {o : Ordering} → s.position ≡ t.position → s.node ≡ t.node → s.sequence ≡ t.sequence → Tri ◌<ᶻ◌ s.offset t.offset o → Tri ◌<ᵗ◌ s t o
     z a b c (below h) = below (offset a b c h)
     z a b c (level e) = level (tuple_≡ a b c e)
     z a b c (above h) = above (offset (sym a) (sym b) (sym c) h)
 
-    q : (o : Order) → s.position ≡ t.position → s.node ≡ t.node → Tri ◌<◌ s.sequence t.sequence o → Tri ◌<ᵗ◌ s t (then o (compare_ℤ s.offset t.offset))
+    q : (o : Ordering) → s.position ≡ t.position → s.node ≡ t.node → Tri ◌<◌ s.sequence t.sequence o → Tri ◌<ᵗ◌ s t (ordering_then o (compare_ℤ s.offset t.offset))
     q Less a b (below h) = below (sequence a b h)
-    q Same a b (level e) = z a b e (tri_ℤ s.offset t.offset)
-    q More a b (above h) = above (sequence (sym a) (sym b) h)
+    q Equal a b (level e) = z a b e (tri_ℤ s.offset t.offset)
+    q Greater a b (above h) = above (sequence (sym a) (sym b) h)
 
-    n : (o : Order) → s.position ≡ t.position → Tri ◌<◌ s.node t.node o → Tri ◌<ᵗ◌ s t (then o (then (compare_ℕ s.sequence t.sequence) (compare_ℤ s.offset t.offset)))
+    n : (o : Ordering) → s.position ≡ t.position → Tri ◌<◌ s.node t.node o → Tri ◌<ᵗ◌ s t (ordering_then o (ordering_then (compare_ℕ s.sequence t.sequence) (compare_ℤ s.offset t.offset)))
     n Less a (below h) = below (node a h)
-    n Same a (level e) = q (compare_ℕ s.sequence t.sequence) a e (tri_ℕ s.sequence t.sequence)
-    n More a (above h) = above (node (sym a) h)
+    n Equal a (level e) = q (compare_ℕ s.sequence t.sequence) a e (tri_ℕ s.sequence t.sequence)
+    n Greater a (above h) = above (node (sym a) h)
 
-    p : (o : Order) → Tri ◌<◌ s.position t.position o → Tri ◌<ᵗ◌ s t (then o (then (compare_ℕ s.node t.node) (then (compare_ℕ s.sequence t.sequence) (compare_ℤ s.offset t.offset))))
+    p : (o : Ordering) → Tri ◌<◌ s.position t.position o → Tri ◌<ᵗ◌ s t (ordering_then o (ordering_then (compare_ℕ s.node t.node) (ordering_then (compare_ℕ s.sequence t.sequence) (compare_ℤ s.offset t.offset))))
     p Less (below h) = below (position h)
-    p Same (level e) = n (compare_ℕ s.node t.node) e (tri_ℕ s.node t.node)
-    p More (above h) = above (position h)
+    p Equal (level e) = n (compare_ℕ s.node t.node) e (tri_ℕ s.node t.node)
+    p Greater (above h) = above (position h)
 
 -- ── names ──
 
@@ -153,30 +154,30 @@ tri_n [] (t ∷ b) = below ends
 tri_n (s ∷ a) [] = above ends
 tri_n (s ∷ a) (t ∷ b) = go (compare_tuples s t) (tri_t s t) (tri_n a b)
   where
-    rest : {o : Order} → s ≡ t → Tri ◌<ⁿ◌ a b o → Tri ◌<ⁿ◌ (s ∷ a) (t ∷ b) o
+    rest : {o : Ordering} → s ≡ t → Tri ◌<ⁿ◌ a b o → Tri ◌<ⁿ◌ (s ∷ a) (t ∷ b) o
     rest e (below h) = below (same e h)
     rest e (level f) = level (cc)
     rest e (above h) = above (same (sym e) h)
 
-    go : (o : Order) → Tri ◌<ᵗ◌ s t o → Tri ◌<ⁿ◌ a b (compare_rows a b) → Tri ◌<ⁿ◌ (s ∷ a) (t ∷ b) (then o (compare_rows a b))
+    go : (o : Ordering) → Tri ◌<ᵗ◌ s t o → Tri ◌<ⁿ◌ a b (compare_rows a b) → Tri ◌<ⁿ◌ (s ∷ a) (t ∷ b) (ordering_then o (compare_rows a b))
     go Less (below h) v = below (differ h)
-    go Same (level e) v = rest e v
-    go More (above h) v = above (differ h)
+    go Equal (level e) v = rest e v
+    go Greater (above h) v = above (differ h)
 
 -- ── from the relation to the comparison, for any order that is transitive and irreflexive ──
 
 module _ {A : Type 0} {R : A → A → Type 0} (trans : (a b c : A) → R a b → R b c → R a c) (irrefl : (a : A) → ¬ (R a a)) where
-  told_less : (a b : A) {o : Order} → R a b → Tri R a b o → o ≡ Less
+  told_less : (a b : A) {o : Ordering} → R a b → Tri R a b o → o ≡ Less
   told_less a b h (below k) = refl
   told_less a b h (level e) = absurd (irrefl b (rw e at h))
   told_less a b h (above k) = absurd (irrefl a (trans a b a h k))
 
-  told_more : (a b : A) {o : Order} → R b a → Tri R a b o → o ≡ More
+  told_more : (a b : A) {o : Ordering} → R b a → Tri R a b o → o ≡ Greater
   told_more a b h (below k) = absurd (irrefl a (trans a b a k h))
   told_more a b h (level e) = absurd (irrefl b (rw e at h))
   told_more a b h (above k) = refl
 
-  told_same : (a : A) {o : Order} → Tri R a a o → o ≡ Same
+  told_same : (a : A) {o : Ordering} → Tri R a a o → o ≡ Equal
   told_same a (below k) = absurd (irrefl a k)
   told_same a (level e) = refl
   told_same a (above k) = absurd (irrefl a k)
@@ -184,46 +185,46 @@ module _ {A : Type 0} {R : A → A → Type 0} (trans : (a b c : A) → R a b �
 pub tuple_less : {s t : Tuple} → s <ᵗ t → compare_tuples s t ≡ Less
 tuple_less {s} {t} h = told_less (λ a b c h k. <ᵗ_trans h k) (λ a h. <ᵗ_irrefl h) s t h (tri_t s t)
 
-pub tuple_same : (t : Tuple) → compare_tuples t t ≡ Same
+pub tuple_same : (t : Tuple) → compare_tuples t t ≡ Equal
 tuple_same t = told_same (λ a b c h k. <ᵗ_trans h k) (λ a h. <ᵗ_irrefl h) t (tri_t t t)
 
 pub row_less : {a b : Row} → a <ⁿ b → compare_rows a b ≡ Less
 row_less {a} {b} h = told_less (λ a b c h k. <ⁿ_trans h k) (λ a h. <ⁿ_irrefl h) a b h (tri_n a b)
 
-pub row_more : {a b : Row} → b <ⁿ a → compare_rows a b ≡ More
+pub row_more : {a b : Row} → b <ⁿ a → compare_rows a b ≡ Greater
 row_more {a} {b} h = told_more (λ a b c h k. <ⁿ_trans h k) (λ a h. <ⁿ_irrefl h) a b h (tri_n a b)
 
-pub row_same : (a : Row) → compare_rows a a ≡ Same
+pub row_same : (a : Row) → compare_rows a a ≡ Equal
 row_same a = told_same (λ a b c h k. <ⁿ_trans h k) (λ a h. <ⁿ_irrefl h) a (tri_n a a)
 
 -- ── and back ──
 
 module _ {A : Type 0} {R : A → A → Type 0} {a b : A} where
-  tri_less : {o : Order} → Tri R a b o → o ≡ Less → R a b
+  tri_less : {o : Ordering} → Tri R a b o → o ≡ Less → R a b
   tri_less (below h) e = h
   tri_less (level h) e = absurd (let z : ◌≡◌ {A = ℕ} 0 1 = cc in omega arith)
   tri_less (above h) e = absurd (let z : ◌≡◌ {A = ℕ} 0 1 = cc in omega arith)
 
-  tri_same : {o : Order} → Tri R a b o → o ≡ Same → a ≡ b
+  tri_same : {o : Ordering} → Tri R a b o → o ≡ Equal → a ≡ b
   tri_same (below h) e = absurd (let z : ◌≡◌ {A = ℕ} 0 1 = cc in omega arith)
   tri_same (level h) e = h
   tri_same (above h) e = absurd (let z : ◌≡◌ {A = ℕ} 0 1 = cc in omega arith)
 
-  tri_more : {o : Order} → Tri R a b o → o ≡ More → R b a
+  tri_more : {o : Ordering} → Tri R a b o → o ≡ Greater → R b a
   tri_more (below h) e = absurd (let z : ◌≡◌ {A = ℕ} 0 1 = cc in omega arith)
   tri_more (level h) e = absurd (let z : ◌≡◌ {A = ℕ} 0 1 = cc in omega arith)
   tri_more (above h) e = h
 
-pub same_tuple : (s t : Tuple) → compare_tuples s t ≡ Same → s ≡ t
+pub same_tuple : (s t : Tuple) → compare_tuples s t ≡ Equal → s ≡ t
 same_tuple s t e = tri_same (tri_t s t) e
 
 pub less_row : (a b : Row) → compare_rows a b ≡ Less → a <ⁿ b
 less_row a b e = tri_less (tri_n a b) e
 
-pub same_row : (a b : Row) → compare_rows a b ≡ Same → a ≡ b
+pub same_row : (a b : Row) → compare_rows a b ≡ Equal → a ≡ b
 same_row a b e = tri_same (tri_n a b) e
 
-pub more_row : (a b : Row) → compare_rows a b ≡ More → b <ⁿ a
+pub more_row : (a b : Row) → compare_rows a b ≡ Greater → b <ⁿ a
 more_row a b e = tri_more (tri_n a b) e
 
 -- ── below or equal ──
@@ -301,17 +302,17 @@ lowered_next {s} {t} (offset a b c h) = elim (pred_next h) [ inl e ↦ inl (tupl
 
 -- ── rising rows of names ──
 
-is_less_lem : (o : Order) → is_less o ≡ true → o ≡ Less
+is_less_lem : (o : Ordering) → is_lt o ≡ true → o ≡ Less
 is_less_lem Less e = refl
-is_less_lem Same e = absurd (let z : ◌≡◌ {A = ℕ} 0 1 = cc in omega arith)
-is_less_lem More e = absurd (let z : ◌≡◌ {A = ℕ} 0 1 = cc in omega arith)
+is_less_lem Equal e = absurd (let z : ◌≡◌ {A = ℕ} 0 1 = cc in omega arith)
+is_less_lem Greater e = absurd (let z : ◌≡◌ {A = ℕ} 0 1 = cc in omega arith)
 
 pub rising_Rising : (l : List Row) → rising l ≡ true → Rising l
 unfolding rising
 rising_Rising [] e = none
 rising_Rising (a ∷ []) e = one
 rising_Rising (a ∷ b ∷ l) e =
-    more (less_row a b (is_less_lem (compare_rows a b) (and_0 (is_less (compare_rows a b)) (rising (b ∷ l)) e))) (rising_Rising (b ∷ l) (and_1 (is_less (compare_rows a b)) (rising (b ∷ l)) e))
+    more (less_row a b (is_less_lem (compare_rows a b) (and_0 (is_lt (compare_rows a b)) (rising (b ∷ l)) e))) (rising_Rising (b ∷ l) (and_1 (is_lt (compare_rows a b)) (rising (b ∷ l)) e))
 
 pub Rising_rising : {l : List Row} → Rising l → rising l ≡ true
 unfolding rising

@@ -5,3 +5,4 @@ pub mod Validity
 pub mod TestedOrder
 pub mod NameLaws
 pub mod Settled
+pub mod DerivedOrder

@@ -5,8 +5,8 @@ use mathlib.Core.Bool.{true}
 use Prim.Native.Nat.{ℕ}
 use native.Mathlib.Omega.{arith}
 use Rattle.names.specs.declared.Tuple.{Tuple}
-use Rattle.names.specs.declared.Order.{Order}
-use Rattle.names.specs.declared.Order.TheVariants.{Less, More}
+use Rattle.std.specs.declared.cmp.Ordering.{Ordering}
+use Rattle.std.specs.declared.cmp.Ordering.TheVariants.{Less, Greater}
 use Rattle.names.specs.Ordering.{Row, compare_tuples, ◌<ᵗ◌, position, ◌<ⁿ◌, differ, same}
 use Rattle.names.specs.Names.{m, M, ordinary, one_below}
 use Rattle.names.specs.Laws.{Laws}
@@ -28,15 +28,15 @@ one_below_lem t (u ∷ a) = same refl (one_below_lem u a)
 tuple_less : (s t : Tuple) → compare_tuples s t ≡ Less → s <ᵗ t
 tuple_less s t e = by (compare_tuples s t) (tri_t s t) e
   where
-    by : (o : Order) → Tri ◌<ᵗ◌ s t o → o ≡ Less → s <ᵗ t
+    by : (o : Ordering) → Tri ◌<ᵗ◌ s t o → o ≡ Less → s <ᵗ t
     by _ (below h) f = h
     by _ (level h) f = absurd (let z : ◌≡◌ {A = ℕ} 0 1 = cc in omega arith)
     by _ (above h) f = absurd (let z : ◌≡◌ {A = ℕ} 0 1 = cc in omega arith)
 
-tuple_more : (s t : Tuple) → compare_tuples s t ≡ More → t <ᵗ s
+tuple_more : (s t : Tuple) → compare_tuples s t ≡ Greater → t <ᵗ s
 tuple_more s t e = by (compare_tuples s t) (tri_t s t) e
   where
-    by : (o : Order) → Tri ◌<ᵗ◌ s t o → o ≡ More → t <ᵗ s
+    by : (o : Ordering) → Tri ◌<ᵗ◌ s t o → o ≡ Greater → t <ᵗ s
     by _ (below h) f = absurd (let z : ◌≡◌ {A = ℕ} 0 1 = cc in omega arith)
     by _ (level h) f = absurd (let z : ◌≡◌ {A = ℕ} 0 1 = cc in omega arith)
     by _ (above h) f = h

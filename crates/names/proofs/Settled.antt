@@ -2,26 +2,10 @@
 -- caller learns from the contract, of any arguments a, result r and parameters at exit s. Assumes nothing.
 use mathlib.Core.Path.{◌≡◌}
 use Rattle.numbers.proofs.Settled.{one}
-use Rattle.names.proofs.is_less.Reads as is_less_lem
-use Rattle.names.proofs.is_same.Reads as is_same_lem
-use Rattle.names.proofs.compare_numbers.Reads as compare-numbers
-use Rattle.names.proofs.first_of.Reads as first_of
 use Rattle.names.proofs.compare_tuples.Reads as compare-tuples
 use Rattle.names.proofs.tuples_in.Reads as tuples-in
 use Rattle.names.proofs.compare.Reads as compare
 use Rattle.names.proofs.is_below.Reads as is_below
-
-pub is_less_settled : (κs : _) (a : _) (r : _) (s : _) (r' : _) (s' : _) → is_less_lem.Learnt κs a r s → is_less_lem.Learnt κs a r' s' → r ≡ r'
-is_less_settled κs a r s r' s' p q = one p q
-
-pub is_same_settled : (κs : _) (a : _) (r : _) (s : _) (r' : _) (s' : _) → is_same_lem.Learnt κs a r s → is_same_lem.Learnt κs a r' s' → r ≡ r'
-is_same_settled κs a r s r' s' p q = one p q
-
-pub compare_numbers_settled : (κs : _) (a : _) (r : _) (s : _) (r' : _) (s' : _) → compare-numbers.Learnt κs a r s → compare-numbers.Learnt κs a r' s' → r ≡ r'
-compare_numbers_settled κs a r s r' s' p q = one p q
-
-pub first_of_settled : (κs : _) (a : _) (r : _) (s : _) (r' : _) (s' : _) → first_of.Learnt κs a r s → first_of.Learnt κs a r' s' → r ≡ r'
-first_of_settled κs a r s r' s' p q = one p q
 
 pub compare_tuples_settled : (κs : _) (a : _) (r : _) (s : _) (r' : _) (s' : _) → compare-tuples.Learnt κs a r s → compare-tuples.Learnt κs a r' s' → r ≡ r'
 compare_tuples_settled κs a r s r' s' p q = one p q

@@ -8,39 +8,40 @@ use Prim.Native.Nat.{◌<◌, ◌≤◌}
 use native.Mathlib.Omega.{arith}
 use lib.ListN.{length, take}
 use Rattle.names.specs.declared.Tuple.{Tuple}
-use Rattle.names.specs.declared.Order.{Order}
-use Rattle.names.specs.declared.Order.TheVariants.{Less, Same, More}
-use Rattle.names.specs.Ordering.{Row, compare_rows, is_less, ◌<ⁿ◌, ends, ◌≤ⁿ◌, less, equal}
+use Rattle.std.specs.declared.cmp.Ordering.{Ordering}
+use Rattle.std.specs.declared.cmp.Ordering.TheVariants.{Less, Equal, Greater}
+use Rattle.names.specs.Ordering.{Row, compare_rows, ◌<ⁿ◌, ends, ◌≤ⁿ◌, less, equal}
+use Rattle.std.specs.Ordering.{is_lt}
 use Rattle.numbers.proofs.Bools.{yes_no}
 use Rattle.names.proofs.Laws.{Tri, below, level, above, tri_n, row_less, row_more, row_same, less_row, same_row, more_row}
 
 -- ── by the test ──
 
-pub is_under_lem : (x y : Row) → is_less (compare_rows x y) ≡ true → x <ⁿ y
+pub is_under_lem : (x y : Row) → is_lt (compare_rows x y) ≡ true → x <ⁿ y
 is_under_lem x y e = go (compare_rows x y) (tri_n x y) e
   where
-    go : (o : Order) → Tri ◌<ⁿ◌ x y o → is_less o ≡ true → x <ⁿ y
+    go : (o : Ordering) → Tri ◌<ⁿ◌ x y o → is_lt o ≡ true → x <ⁿ y
     go _ (below h) e = h
     go _ (level h) e = yes_no e refl
     go _ (above h) e = yes_no e refl
 
-pub not_under : (x y : Row) → is_less (compare_rows x y) ≡ false → y ≤ⁿ x
+pub not_under : (x y : Row) → is_lt (compare_rows x y) ≡ false → y ≤ⁿ x
 not_under x y e = go (compare_rows x y) (tri_n x y) e
   where
-    go : (o : Order) → Tri ◌<ⁿ◌ x y o → is_less o ≡ false → y ≤ⁿ x
+    go : (o : Ordering) → Tri ◌<ⁿ◌ x y o → is_lt o ≡ false → y ≤ⁿ x
     go _ (below h) e = yes_no refl e
     go _ (level h) e = equal (sym h)
     go _ (above h) e = less h
 
 -- ── the other way round ──
 
-pub turned_less : (x y : Row) → compare_rows x y ≡ Less → More ≡ compare_rows y x
+pub turned_less : (x y : Row) → compare_rows x y ≡ Less → Greater ≡ compare_rows y x
 turned_less x y e = sym (row_more (less_row x y e))
 
-pub turned_same : (x y : Row) → compare_rows x y ≡ Same → Same ≡ compare_rows y x
+pub turned_same : (x y : Row) → compare_rows x y ≡ Equal → Equal ≡ compare_rows y x
 turned_same x y e = sym (ap (compare_rows y) (same_row x y e) ∙ row_same y)
 
-pub turned_more : (x y : Row) → compare_rows x y ≡ More → Less ≡ compare_rows y x
+pub turned_more : (x y : Row) → compare_rows x y ≡ Greater → Less ≡ compare_rows y x
 turned_more x y e = sym (row_less (more_row x y e))
 
 -- ── the first tuple ──

@@ -11,9 +11,10 @@ use lib.IntN.{ℤ, pos, negsuc, pred_ℤ}
 use lib.Signed.{le_z}
 use Rattle.names.specs.declared.Tuple.{Tuple}
 use Rattle.names.specs.declared.Author.{Author}
-use Rattle.names.specs.declared.Order.{Order}
-use Rattle.names.specs.declared.Order.TheVariants.{Less, Same, More}
-use Rattle.names.specs.Ordering.{Row, compare_tuples, is_same, ◌<ᶻ◌, up, across, down}
+use Rattle.std.specs.declared.cmp.Ordering.{Ordering}
+use Rattle.std.specs.declared.cmp.Ordering.TheVariants.{Less, Equal, Greater}
+use Rattle.names.specs.Ordering.{Row, compare_tuples, ◌<ᶻ◌, up, across, down}
+use Rattle.std.specs.Ordering.{is_eq}
 use Rattle.names.specs.Names.{within, within_ℤ, ordinary_from, ordinary, m, M, marker, ends_well, is_name, lowered}
 use Rattle.numbers.proofs.Bools.{and_0, and_1}
 use Rattle.names.proofs.Laws.{same_tuple, tuple_same, <ᶻ_trans, pred_below}
@@ -104,16 +105,16 @@ last_is t e =
     let h = above_zero t.offset (least_test (pos 0) t e) in
     final (from_test (pos 0) t e (<ᶻ_trans {b = negsuc 0} (down {a = 1} {b = 0} (omega arith)) h)) h
 
-is_same_lem : (o : Order) → is_same o ≡ true → o ≡ Same
-is_same_lem Same e = refl
+is_same_lem : (o : Ordering) → is_eq o ≡ true → o ≡ Equal
+is_same_lem Equal e = refl
 is_same_lem Less e = absurd (let z : ◌≡◌ {A = ℕ} 0 1 = cc in omega arith)
-is_same_lem More e = absurd (let z : ◌≡◌ {A = ℕ} 0 1 = cc in omega arith)
+is_same_lem Greater e = absurd (let z : ◌≡◌ {A = ℕ} 0 1 = cc in omega arith)
 
 middle_is : (t : Tuple) → ordinary t || marker t ≡ true → Middle t
 unfolding marker
-middle_is t e = by (ordinary t) (is_same (compare_tuples t m)) refl refl e
+middle_is t e = by (ordinary t) (is_eq (compare_tuples t m)) refl refl e
   where
-    by : (a b : Bool) → ordinary t ≡ a → is_same (compare_tuples t m) ≡ b → a || (b || is_same (compare_tuples t M)) ≡ true → Middle t
+    by : (a b : Bool) → ordinary t ≡ a → is_eq (compare_tuples t m) ≡ b → a || (b || is_eq (compare_tuples t M)) ≡ true → Middle t
     by true b p q e = plain (ordinary_is t p)
     by false true p q e = marker_m (same_tuple t m (is_same_lem (compare_tuples t m) q))
     by false false p q e = marker_M (same_tuple t M (is_same_lem (compare_tuples t M) e))
@@ -167,8 +168,8 @@ or_right false e = e
 is_middle : {t : Tuple} → Middle t → ordinary t || marker t ≡ true
 unfolding marker
 is_middle {t} (plain o) = or_left (marker t) (is_ordinary o)
-is_middle {t} (marker_m e) = or_right (ordinary t) (or_left (is_same (compare_tuples t M)) (ap (λ (u : Tuple). is_same (compare_tuples u m)) e ∙ ap is_same (tuple_same m)))
-is_middle {t} (marker_M e) = or_right (ordinary t) (or_right (is_same (compare_tuples t m)) (ap (λ (u : Tuple). is_same (compare_tuples u M)) e ∙ ap is_same (tuple_same M)))
+is_middle {t} (marker_m e) = or_right (ordinary t) (or_left (is_eq (compare_tuples t M)) (ap (λ (u : Tuple). is_eq (compare_tuples u m)) e ∙ ap is_eq (tuple_same m)))
+is_middle {t} (marker_M e) = or_right (ordinary t) (or_right (is_eq (compare_tuples t m)) (ap (λ (u : Tuple). is_eq (compare_tuples u M)) e ∙ ap is_eq (tuple_same M)))
 
 ends_long : {a : Row} → Ends a → 1 ≤ length a
 ends_long (final o h) = omega arith

@@ -1,7 +1,7 @@
 -- What holds of the order of names, beyond what a comparison answers. proofs/NameLaws.antt has that all of it holds.
 use Rattle.std.specs.Prelude.{◌≡◌, List, ◌∷◌, ◌++◌, ◌⊎◌, true}
 use Rattle.names.specs.declared.Tuple.{Tuple}
-use Rattle.names.specs.declared.Order.TheVariants.{Less, Same, More}
+use Rattle.std.specs.declared.cmp.Ordering.TheVariants.{Less, Equal, Greater}
 use Rattle.names.specs.Ordering.{Row, compare_tuples, compare_rows, rising, ◌<ᵗ◌, ◌<ⁿ◌, Rising}
 use Rattle.names.specs.Names.{m, M, ordinary, lowered, one_below}
 
@@ -9,12 +9,12 @@ pub record Laws : Type 0 where
   -- "Names compare at the first tuple that differs": the comparison answers what the relation says, so of two names one is below
   -- the other or they are the same
   pub less : (a b : Row) → compare_rows a b ≡ Less → a <ⁿ b
-  pub same : (a b : Row) → compare_rows a b ≡ Same → a ≡ b
-  pub more : (a b : Row) → compare_rows a b ≡ More → b <ⁿ a
+  pub same : (a b : Row) → compare_rows a b ≡ Equal → a ≡ b
+  pub more : (a b : Row) → compare_rows a b ≡ Greater → b <ⁿ a
   -- so do those of tuples, and the test and the relation "strictly rising"
   pub tuple_less : (s t : Tuple) → compare_tuples s t ≡ Less → s <ᵗ t
-  pub tuple_same : (s t : Tuple) → compare_tuples s t ≡ Same → s ≡ t
-  pub tuple_more : (s t : Tuple) → compare_tuples s t ≡ More → t <ᵗ s
+  pub tuple_same : (s t : Tuple) → compare_tuples s t ≡ Equal → s ≡ t
+  pub tuple_more : (s t : Tuple) → compare_tuples s t ≡ Greater → t <ᵗ s
   pub test_rises : (l : List Row) → rising l ≡ true → Rising l
   pub rises_test : {l : List Row} → Rising l → rising l ≡ true
   -- it is a strict order

@@ -1,11 +1,13 @@
 -- Tuples and names: document 01, "Names".
-use Rattle.std.specs.Prelude.{ℕ, ◌-◌, ◌≡◌, [], ◌∷◌, ◌++◌, Bool, false, cond, ◌&&◌, ◌||◌, length, take, replicate, leb, ℤ, pos, negsuc}
+use Rattle.std.specs.Prelude.{ℕ, ◌-◌, ◌≡◌, [], ◌∷◌, ◌++◌, Bool, false, cond, ◌&&◌, ◌||◌, length, take, replicate, leb, is_some, IfSome, ℤ, pos, negsuc}
 use Rattle.std.proofs.Math.IntN.{pred_ℤ}
 use Rattle.std.specs.Int.Signed.{le_z}
 use Rattle.names.specs.declared.Tuple.{Tuple}
 use Rattle.names.specs.declared.Name.{Name}
-use Rattle.names.specs.declared.Joined.{Joined}
-use Rattle.names.specs.Ordering.{Row, compare_tuples, is_same}
+use Rattle.std.specs.declared.option.Option.{Option}
+use Rattle.std.specs.declared.option.Option.TheVariants.{Some, None}
+use Rattle.names.specs.Ordering.{Row, compare_tuples}
+use Rattle.std.specs.Ordering.{is_eq}
 
 -- "A name is a row of at most eight tuples"; 02, P8: "Raise the depth limit to sixteen." The limit is asked apart from the rest,
 -- since a result may pass it.
@@ -48,7 +50,7 @@ abbrev pub M : Tuple
 M = record { position = 65535; node = 65535; sequence = 4294967295; offset = pos 2147483647 }
 
 unfoldable pub marker : Tuple → Bool
-marker t = is_same (compare_tuples t m) || is_same (compare_tuples t M)
+marker t = is_eq (compare_tuples t m) || is_eq (compare_tuples t M)
 
 -- "The first and last tuples are ordinary, the last has offset at least 0, and markers may stand only between."
 -- From any tuple of a name on: markers or ordinary tuples, and then the last.
@@ -66,17 +68,13 @@ is_name (t ∷ a) = ordinary t && ends_well (t ∷ a)
 abbrev pub value_of : Row → Name
 value_of a = record { depth = length a; tuples = a ++ replicate (limit - length a) m }
 
--- a row of at most `limit` tuples; of a longer one there is no name
-abbrev pub fitted : Row → Row
-fitted a = cond (fits a) a []
+-- a·b, which is `a ++ b`, as a name by value: of more than `limit` tuples there is none
+abbrev pub joined : Row → Row → Option Name
+joined a b = cond (fits (a ++ b)) (Some (value_of (a ++ b))) None
 
--- a·b, which is `a ++ b`, as a name by value: of more than `limit` tuples there is none, and the row is empty
-abbrev pub joined : Row → Row → Row
-joined a b = fitted (a ++ b)
-
--- what the code gives of a row: whether it has at most `limit` tuples, and the name where it has
-abbrev pub Gives : Joined → Row → Type 0
-Gives r a = (r.fits ≡ fits a) × (row_of r.name ≡ fitted a)
+-- what the code gives of a row: a name, where it has at most `limit` tuples, and that has these
+abbrev pub Gives : Option Name → Row → Type 0
+Gives r a = (is_some r ≡ fits a) × IfSome r (λ x. row_of x ≡ a)
 
 -- "'One below' a name is that name with its last offset less 1; offset 0 gives −1."
 abbrev pub lowered : Tuple → Tuple

@@ -3,9 +3,10 @@
 -- the two agree, and the laws of the order.
 use Rattle.std.specs.Prelude.{ℕ, ◌<◌, ◌≡◌, List, [], ◌∷◌, Bool, true, false, ◌&&◌, ltb, ℤ, pos, negsuc}
 use Rattle.std.specs.Int.Signed.{lt_z}
+use Rattle.std.specs.Ordering.{is_lt, ordering_then}
 use Rattle.names.specs.declared.Tuple.{Tuple}
-use Rattle.names.specs.declared.Order.{Order}
-use Rattle.names.specs.declared.Order.TheVariants.{Less, Same, More}
+use Rattle.std.specs.declared.cmp.Ordering.{Ordering}
+use Rattle.std.specs.declared.cmp.Ordering.TheVariants.{Less, Equal, Greater}
 
 -- "A name is a row of .. tuples": the list of them. a·b, "the tuples of a, then those of b", is `a ++ b`.
 abbrev pub Row : Type 0
@@ -14,52 +15,36 @@ Row = List Tuple
 -- ── the comparison ──
 
 -- by whether the first is below the second, and the second below the first
-abbrev pub by_tests : Bool → Bool → Order
+abbrev pub by_tests : Bool → Bool → Ordering
 by_tests true b = Less
-by_tests false true = More
-by_tests false false = Same
+by_tests false true = Greater
+by_tests false false = Equal
 
-abbrev pub compare_ℕ : ℕ → ℕ → Order
+abbrev pub compare_ℕ : ℕ → ℕ → Ordering
 compare_ℕ a b = by_tests (ltb a b) (ltb b a)
 
-abbrev pub compare_ℤ : ℤ → ℤ → Order
+abbrev pub compare_ℤ : ℤ → ℤ → Ordering
 compare_ℤ a b = by_tests (lt_z a b) (lt_z b a)
 
--- the first comparison where it decides, else the second
-abbrev pub then : Order → Order → Order
-then Less o = Less
-then Same o = o
-then More o = More
-
 -- "Tuples compare by position, node, sequence, offset, in that order, offset signed."
-unfoldable pub compare_tuples : Tuple → Tuple → Order
+unfoldable pub compare_tuples : Tuple → Tuple → Ordering
 compare_tuples s t =
-    then (compare_ℕ s.position t.position)
-    (then (compare_ℕ s.node t.node)
-    (then (compare_ℕ s.sequence t.sequence) (compare_ℤ s.offset t.offset)))
+    ordering_then (compare_ℕ s.position t.position)
+    (ordering_then (compare_ℕ s.node t.node)
+    (ordering_then (compare_ℕ s.sequence t.sequence) (compare_ℤ s.offset t.offset)))
 
 -- "Names compare at the first tuple that differs; a proper prefix is smaller (001, section 2.1)."
-unfoldable pub compare_rows : Row → Row → Order
-compare_rows [] [] = Same
+unfoldable pub compare_rows : Row → Row → Ordering
+compare_rows [] [] = Equal
 compare_rows [] (t ∷ b) = Less
-compare_rows (s ∷ a) [] = More
-compare_rows (s ∷ a) (t ∷ b) = then (compare_tuples s t) (compare_rows a b)
-
-abbrev pub is_less : Order → Bool
-is_less Less = true
-is_less Same = false
-is_less More = false
-
-abbrev pub is_same : Order → Bool
-is_same Less = false
-is_same Same = true
-is_same More = false
+compare_rows (s ∷ a) [] = Greater
+compare_rows (s ∷ a) (t ∷ b) = ordering_then (compare_tuples s t) (compare_rows a b)
 
 -- "strictly rising names"
 unfoldable pub rising : List Row → Bool
 rising [] = true
 rising (a ∷ []) = true
-rising (a ∷ b ∷ l) = is_less (compare_rows a b) && rising (b ∷ l)
+rising (a ∷ b ∷ l) = is_lt (compare_rows a b) && rising (b ∷ l)
 
 -- ── the relation ──
 

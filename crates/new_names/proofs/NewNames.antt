@@ -15,14 +15,15 @@ use lib.ListN.{length, get_or, length-map, get_or-eq_default}
 use lib.Signed.{non_neg}
 use Rattle.names.specs.declared.Author.{Author}
 use Rattle.names.specs.declared.Tuple.{Tuple}
-use Rattle.names.specs.declared.Order.{Order}
-use Rattle.names.specs.declared.Order.TheVariants.{Less, Same, More}
-use Rattle.names.specs.Ordering.{Row, compare_tuples, is_same, ◌<ᶻ◌, up, across, ◌<ᵗ◌, position, ◌<ⁿ◌, ends, differ, Rising}
+use Rattle.std.specs.declared.cmp.Ordering.{Ordering}
+use Rattle.std.specs.declared.cmp.Ordering.TheVariants.{Less, Equal, Greater}
+use Rattle.names.specs.Ordering.{Row, compare_tuples, ◌<ᶻ◌, up, across, ◌<ᵗ◌, position, ◌<ⁿ◌, ends, differ, Rising}
+use Rattle.std.specs.Ordering.{is_eq}
 use Rattle.names.specs.Names.{fits, lowered}
 use Rattle.names.proofs.Laws.{Before, prefix, apart, before, Tri, level, tri_t, tuple_same, <ⁿ_irrefl, ++_prefix, ++_left, lowered_below, rising_Rising}
 use Rattle.names.proofs.Validity.{Allowed, Ordinary, Middle, plain, marker_m, marker_M, Ends, final, onward, Valid, valid, valid_name, valid_ends, ends_middle, lowered_ordinary}
 use Rattle.numbers.specs.Bytes.{Bytes}
-use Rattle.answers.specs.declared.Answer.TheVariants.{Accepted}
+use Rattle.std.specs.declared.result.Result.TheVariants.{Ok}
 use Rattle.pages.specs.declared.Place.TheVariants.{Here, Gap}
 use Rattle.answers.specs.declared.Refusal.TheVariants.{NoNewName, TooDeep}
 use Rattle.answers.specs.Answers.{Test, ◌else◌, in_order}
@@ -58,10 +59,10 @@ rest_is [] b r e = cc
 rest_is (s ∷ a) [] r e = cc
 rest_is (s ∷ a) (t ∷ b) r e = go (compare_tuples s t) (tri_t s t) (rest_is a b r) e
   where
-    go : (o : Order) → Tri ◌<ᵗ◌ s t o → (rest a b ≡ some r → b ≡ a ++ r) → cond (is_same o) (rest a b) none ≡ some r → t ∷ b ≡ s ∷ (a ++ r)
+    go : (o : Ordering) → Tri ◌<ᵗ◌ s t o → (rest a b ≡ some r → b ≡ a ++ r) → cond (is_eq o) (rest a b) none ≡ some r → t ∷ b ≡ s ∷ (a ++ r)
     go Less v f e = cc
-    go Same (level d) f e = let g = f e in cc
-    go More v f e = cc
+    go Equal (level d) f e = let g = f e in cc
+    go Greater v f e = cc
 
 module _ (author : Author) where
   before_tuple_lem : (a : Row) (y : Tuple) (u : Row) → Every (λ c. (a <ⁿ c) × (c <ⁿ a ++ (y ∷ u))) (before_tuple author a y)
@@ -235,7 +236,7 @@ record Accepting (page : Bytes) (gap : ℕ) (author : Author) (c : Row) : Type 0
   named : (new_name_outcome page gap author).name ≡ c
 
 abbrev IsGiven : Named → Type 0
-IsGiven o = o.answer ≡ Accepted 0
+IsGiven o = o.answer ≡ Ok 0
 
 given : (next : Named) (tests : List Test) → IsGiven (in_order tests refuse_name next) → Passed tests × IsGiven next
 given next tests e = reached IsGiven refuse_name next (λ r f. no_answer r 0 f) tests e
@@ -251,7 +252,7 @@ module _ (page : Bytes) (gap : ℕ) (author : Author) where
       by : Passed (gap_tests page gap author) → (o : Option Row) → x ≡ o → IsGiven (answer_name o) → (c : Row) × Accepting page gap author c
       by p none q e = no_answer NoNewName 0 e
       by (layout, (order, (node, (inside, _)))) (some c) q e =
-          let f : fits c ≡ true = (given (record { answer = Accepted 0; name = c }) (fits c else TooDeep ∷ []) e).0.0 in (
+          let f : fits c ≡ true = (given (record { answer = Ok 0; name = c }) (fits c else TooDeep ∷ []) e).0.0 in (
             c,
             record {
               layout = layout;

@@ -14,7 +14,7 @@ use Rattle.numbers.specs.Bytes.{Bytes}
 use Rattle.slots.specs.declared.Span.{Span}
 use Rattle.slots.specs.Tuples.{tuple_at, tuple_size, row_at, Lies}
 use Rattle.slots.proofs.TuplesInBytes.{length_tuples_at, get_or_tuples_at}
-use Rattle.answers.specs.declared.Answer.TheVariants.{Accepted}
+use Rattle.std.specs.declared.result.Result.TheVariants.{Ok}
 use Rattle.answers.specs.declared.Refusal.TheVariants.{TooDeep}
 use Rattle.new_names.specs.declared.Parts.{Parts}
 use Rattle.new_names.specs.NewNames.{refuse_name, answer_name}
@@ -35,7 +35,7 @@ module _ (s : Bytes) (a : Span) where
   -- the tuples at a, and k of two more
   module _ (t u : Tuple) where
     pub grown : (k : ℕ) → k ≤ 2 → a.count + k ≤ limit → Lies s a →
-        Means s (record { answer = Accepted 0; a = a; first = t; second = u; depth = a.count + k }) (answer_name (some (row_at s a ++ take k (t ∷ u ∷ []))))
+        Means s (record { answer = Ok 0; a = a; first = t; second = u; depth = a.count + k }) (answer_name (some (row_at s a ++ take k (t ∷ u ∷ []))))
     grown k h f l =
         let x = t ∷ u ∷ [] in
         let g : length (row_at s a) + length (take k x) ≤ limit = omega (arith, len, length-take k x) in

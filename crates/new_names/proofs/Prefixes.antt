@@ -8,9 +8,10 @@ use Prim.Native.Nat.{ℕ, zero, suc, ◌-◌, ◌<◌, ◌≤◌}
 use native.Mathlib.Nat.{not-suc-le-zero}
 use native.Mathlib.Omega.{arith}
 use lib.ListN.{length, take, drop, get_or}
-use Rattle.names.specs.declared.Order.{Order}
-use Rattle.names.specs.declared.Order.TheVariants.{Less, Same, More}
-use Rattle.names.specs.Ordering.{Row, then, compare_tuples, compare_rows, is_same}
+use Rattle.std.specs.declared.cmp.Ordering.{Ordering}
+use Rattle.std.specs.declared.cmp.Ordering.TheVariants.{Less, Equal, Greater}
+use Rattle.names.specs.Ordering.{Row, compare_tuples, compare_rows}
+use Rattle.std.specs.Ordering.{ordering_then, is_eq}
 use Rattle.numbers.specs.Bytes.{Bytes, at16}
 use Rattle.slots.specs.Tuples.{tuple_at, tuples_at}
 use Rattle.slots.proofs.TuplesInBytes.{length_tuples_at, take_tuples_at}
@@ -22,24 +23,24 @@ longer : (a b : Row) → length b < length a → rest a b ≡ none
 unfolding rest
 longer [] b h = absurd (not-suc-le-zero h)
 longer (s ∷ a) [] h = refl
-longer (s ∷ a) (t ∷ b) h = go (is_same (compare_tuples s t)) (longer a b (omega arith))
+longer (s ∷ a) (t ∷ b) h = go (is_eq (compare_tuples s t)) (longer a b (omega arith))
   where
     go : (c : Bool) → rest a b ≡ none → cond c (rest a b) none ≡ none
     go true e = e
     go false e = refl
 
 -- a is compared with as many of b's tuples
-compared : (a b : Row) → length a ≤ length b → rest a b ≡ cond (is_same (compare_rows a (take (length a) b))) (some (drop (length a) b)) none
+compared : (a b : Row) → length a ≤ length b → rest a b ≡ cond (is_eq (compare_rows a (take (length a) b))) (some (drop (length a) b)) none
 unfolding rest compare_rows
 compared [] b h = refl
 compared (s ∷ a) [] h = absurd (not-suc-le-zero h)
 compared (s ∷ a) (t ∷ b) h = go (compare_tuples s t) (compared a b (omega arith))
   where
-    go : (o : Order) → rest a b ≡ cond (is_same (compare_rows a (take (length a) b))) (some (drop (length a) b)) none →
-        cond (is_same o) (rest a b) none ≡ cond (is_same (then o (compare_rows a (take (length a) b)))) (some (drop (length a) b)) none
+    go : (o : Ordering) → rest a b ≡ cond (is_eq (compare_rows a (take (length a) b))) (some (drop (length a) b)) none →
+        cond (is_eq o) (rest a b) none ≡ cond (is_eq (ordering_then o (compare_rows a (take (length a) b)))) (some (drop (length a) b)) none
     go Less e = refl
-    go Same e = e
-    go More e = refl
+    go Equal e = e
+    go Greater e = refl
 
 -- the n tuples from p on, and the k from q on
 module _ (s : Bytes) (p n q k : ℕ) where
@@ -47,14 +48,14 @@ module _ (s : Bytes) (p n q k : ℕ) where
   rest_longer h = longer (tuples_at s p n) (tuples_at s q k) (omega (arith, length_tuples_at s p n, length_tuples_at s q k))
 
   -- the first n of both compare as o
-  pub rest_compared : {o : Order} → o ≡ compare_rows (tuples_at s p n) (tuples_at s q n) → n ≤ k →
-      rest (tuples_at s p n) (tuples_at s q k) ≡ cond (is_same o) (some (drop n (tuples_at s q k))) none
+  pub rest_compared : {o : Ordering} → o ≡ compare_rows (tuples_at s p n) (tuples_at s q n) → n ≤ k →
+      rest (tuples_at s p n) (tuples_at s q k) ≡ cond (is_eq o) (some (drop n (tuples_at s q k))) none
   rest_compared e h =
       let a = tuples_at s p n in
       let b = tuples_at s q k in
       let l = length_tuples_at s p n in
       let t = (λ i. compare_rows a (take (l i) b)) ∙ ap (compare_rows a) (take_tuples_at s q k n h) ∙ sym e in
-      compared a b (omega (arith, l, length_tuples_at s q k)) ∙ (λ i. cond (is_same (t i)) (some (drop (l i) b)) none)
+      compared a b (omega (arith, l, length_tuples_at s q k)) ∙ (λ i. cond (is_eq (t i)) (some (drop (l i) b)) none)
 
 -- ── neighbours of a gap ──
 

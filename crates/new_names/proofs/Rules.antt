@@ -13,7 +13,8 @@ use lib.Seq.{drop-cons}
 use lib.Signed.{non_neg}
 use Rattle.names.specs.declared.Author.{Author}
 use Rattle.names.specs.declared.Tuple.{Tuple}
-use Rattle.names.specs.Ordering.{Row, compare_tuples, is_same}
+use Rattle.names.specs.Ordering.{Row, compare_tuples}
+use Rattle.std.specs.Ordering.{is_eq}
 use Rattle.names.specs.Names.{lowered, m}
 use Rattle.new_names.specs.NewNames.{first_before, first_after, rest, own, before_tuple, close_by, new_name}
 
@@ -43,7 +44,7 @@ unfolding rest
 no_rest [] [] h = inl refl
 no_rest [] (t ∷ b) h = absurd (not-suc-le-zero h)
 no_rest (s ∷ a) [] h = inr refl
-no_rest (s ∷ a) (t ∷ b) h = go (is_same (compare_tuples s t)) (no_rest a b (omega arith))
+no_rest (s ∷ a) (t ∷ b) h = go (is_eq (compare_tuples s t)) (no_rest a b (omega arith))
   where
     go : (c : Bool) → (rest a b ≡ some []) ⊎ (rest a b ≡ none) → (cond c (rest a b) none ≡ some []) ⊎ (cond c (rest a b) none ≡ none)
     go true r = r

@@ -4,7 +4,7 @@ use Rattle.names.specs.declared.Author.{Author}
 use Rattle.names.specs.Names.{fits, is_name}
 use Rattle.names.specs.Ordering.{Row, ◌<ⁿ◌}
 use Rattle.numbers.specs.Bytes.{Bytes}
-use Rattle.answers.specs.declared.Answer.TheVariants.{Accepted}
+use Rattle.std.specs.declared.result.Result.TheVariants.{Ok}
 use Rattle.pages.specs.declared.Place.TheVariants.{Gap}
 use Rattle.pages.specs.Pages.{names_of}
 use Rattle.pages.specs.Places.{has, place_of}
@@ -33,4 +33,4 @@ pub record InGap (page : Bytes) (gap : ℕ) (c : Row) : Type 0 where
 abbrev pub NewNameLaw : Type 0
 NewNameLaw =
     (page : Bytes) (gap : ℕ) (author : Author) → author.node ≤ 65535 → author.sequence ≤ 4294967295 →
-    (new_name_outcome page gap author).answer ≡ Accepted 0 → InGap page gap (new_name_outcome page gap author).name
+    (new_name_outcome page gap author).answer ≡ Ok 0 → InGap page gap (new_name_outcome page gap author).name

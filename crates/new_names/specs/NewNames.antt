@@ -5,13 +5,14 @@ use Rattle.std.proofs.Math.Option.{Option, none, some}
 use Rattle.std.specs.Int.Signed.{non_neg}
 use Rattle.names.specs.declared.Author.{Author}
 use Rattle.names.specs.declared.Tuple.{Tuple}
-use Rattle.names.specs.Ordering.{Row, compare_tuples, is_same}
+use Rattle.names.specs.Ordering.{Row, compare_tuples}
+use Rattle.std.specs.Ordering.{is_eq}
 use Rattle.names.specs.Names.{fits, lowered, value_of}
 use Rattle.numbers.specs.Bytes.{Bytes}
 use Rattle.answers.specs.declared.Refusal.{Refusal}
 use Rattle.answers.specs.declared.Refusal.TheVariants.{BadLayout, NotRising, NoAuthor, NoGap, NoNewName, TooDeep}
-use Rattle.answers.specs.declared.Answer.{Answer}
-use Rattle.answers.specs.declared.Answer.TheVariants.{Accepted, Refused}
+use Rattle.answers.specs.Answers.{Answer}
+use Rattle.std.specs.declared.result.Result.TheVariants.{Ok, Err}
 use Rattle.answers.specs.Answers.{Test, ◌else◌, in_order}
 use Rattle.pages.specs.Pages.{slots_of, names_of, keeps_layout, rises}
 use Rattle.new_names.specs.declared.NewName.{NewName}
@@ -29,7 +30,7 @@ first_after (t ∷ b) = t.position
 unfoldable pub rest : Row → Row → Option Row
 rest [] b = some b
 rest (s ∷ a) [] = none
-rest (s ∷ a) (t ∷ b) = cond (is_same (compare_tuples s t)) (rest a b) none
+rest (s ∷ a) (t ∷ b) = cond (is_eq (compare_tuples s t)) (rest a b) none
 
 -- the author's tuple at a position: "author's node and sequence, offset 0"
 abbrev pub own : Author → ℕ → Tuple
@@ -72,12 +73,12 @@ pub record Named : Type 0 where
   pub name : Row
 
 abbrev pub refuse_name : Refusal → Named
-refuse_name r = record { answer = Refused r; name = [] }
+refuse_name r = record { answer = Err r; name = [] }
 
 -- "12: no new name by the rule", "6: some result needs more than eight tuples" (02, P8: sixteen); the count of a new name is 0
 abbrev pub answer_name : Option Row → Named
 answer_name none = refuse_name NoNewName
-answer_name (some c) = in_order (fits c else TooDeep ∷ []) refuse_name (record { answer = Accepted 0; name = c })
+answer_name (some c) = in_order (fits c else TooDeep ∷ []) refuse_name (record { answer = Ok 0; name = c })
 
 -- what is asked before the rule: "new name 1, 2, 4, 16, .."
 abbrev pub gap_tests : Bytes → ℕ → Author → List Test

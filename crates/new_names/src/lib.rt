@@ -47,7 +47,7 @@ fn refused(r: Refusal) -> Parts
 {
     let zero = name_values::low_marker();
     Parts {
-        answer: Answer::Refused(r),
+        answer: Err(r),
         a: Span { at: 0, count: 0 },
         first: zero,
         second: zero,
@@ -77,7 +77,7 @@ fn one_more(a: Span, t: Tuple) -> Parts
         return refused(Refusal::TooDeep);
     }
     Parts {
-        answer: Answer::Accepted(0),
+        answer: Ok(0),
         a,
         first: t,
         second: t,
@@ -95,7 +95,7 @@ fn two_more(a: Span, t: Tuple, u: Tuple) -> Parts
         return refused(Refusal::TooDeep);
     }
     Parts {
-        answer: Answer::Accepted(0),
+        answer: Ok(0),
         a,
         first: t,
         second: u,
@@ -139,7 +139,7 @@ fn is_prefix(page: &[u8], a: Span, b: Span) -> bool
     if b.count < a.count {
         return false;
     }
-    names::is_same(slots::compare_rows(page, a.at, a.count, page, b.at, a.count))
+    slots::compare_rows(page, a.at, a.count, page, b.at, a.count).is_eq()
 }
 
 // "If y's position is 2 or more: a·(half that position rounded down, node, sequence, 0). If it is 1 and y's offset is at

@@ -1,7 +1,7 @@
 -- Numbers as bytes, and bytes written at a place: document 01, "Pages, logs, epochs". "All numbers are big-endian, offsets in two's
 -- complement."
 use Rattle.std.specs.Prelude.{ℕ, ◌+◌, ◌-◌, ◌*◌, ◌/◌, ◌%◌, ◌<◌, List, [], ◌∷◌, ◌++◌, Bool, cond, length, get_or, take, drop, eqb, ltb, ℤ, pos, negsuc}
-use Rattle.numbers.specs.Lists.{every}
+use Rattle.std.specs.List.{list_all}
 
 abbrev pub Bytes : Type 0
 Bytes = List ℕ
@@ -30,7 +30,7 @@ abbrev pub is_zero : ℕ → Bool
 is_zero x = eqb x 0
 
 abbrev pub all_zero : Bytes → Bool
-all_zero s = every is_zero s
+all_zero s = list_all is_zero s
 
 -- ── to bytes ──
 

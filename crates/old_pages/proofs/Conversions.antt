@@ -15,7 +15,7 @@ use lib.Seq.{get_or-take, get_or-drop}
 use Rattle.names.specs.Names.{limit, is_name}
 use Rattle.names.proofs.Laws.{rising_Rising}
 use Rattle.numbers.specs.Bytes.{Bytes, Octets, is_zero}
-use Rattle.numbers.specs.Lists.{every}
+use Rattle.std.specs.List.{list_all}
 use Rattle.numbers.proofs.Bools.{and_0, and_1}
 use Rattle.numbers.proofs.Every.{every_each}
 use Rattle.slots.specs.Tuples.{tuples_at, tuple_size}
@@ -27,7 +27,7 @@ use Rattle.pages.specs.Laws.{IsPage}
 use Rattle.pages.proofs.RoundTrip.{laid_over, slots_over_lem, page_back_over, slots_back_over, written_page_over, laid, slots_back, written_page}
 use Rattle.pages.proofs.SlotBySlot.{lent, lent_keeps, length_slots}
 use Rattle.pages.proofs.PageOutcomes.{page_again}
-use Rattle.answers.specs.declared.Answer.TheVariants.{Accepted, Refused}
+use Rattle.std.specs.declared.result.Result.TheVariants.{Ok, Err}
 use Rattle.answers.specs.declared.Refusal.TheVariants.{TooDeep}
 use Rattle.answers.specs.Answers.{Outcome, refuse, write}
 use Rattle.answers.specs.Laws.{here, later, RefusedBy, test, after}
@@ -52,7 +52,7 @@ record From (old : Bytes) (room : ℕ) : Type 0 where
   order : old_rises old ≡ true
   written : (from_old_outcome old room).bytes ≡ flatten (pieces (old_slots_of old))
 
-from_facts : (old : Bytes) (room n : ℕ) → (from_old_outcome old room).answer ≡ Accepted n → From old room
+from_facts : (old : Bytes) (room n : ℕ) → (from_old_outcome old room).answer ≡ Ok n → From old room
 unfolding from_old_outcome
 from_facts old room n e =
     let all = pieces (old_slots_of old) in
@@ -63,10 +63,10 @@ from_facts old room n e =
 record To (page : Bytes) (room : ℕ) : Type 0 where
   layout : keeps_layout page ≡ true
   order : rises page ≡ true
-  shallow : every fits_old (names_of page) ≡ true
+  shallow : list_all fits_old (names_of page) ≡ true
   written : (to_old_outcome page room).bytes ≡ flatten (old_pieces (slots_of page))
 
-to_facts : (page : Bytes) (room n : ℕ) → (to_old_outcome page room).answer ≡ Accepted n → To page room
+to_facts : (page : Bytes) (room n : ℕ) → (to_old_outcome page room).answer ≡ Ok n → To page room
 unfolding to_old_outcome
 to_facts page room n e =
     let all = old_pieces (slots_of page) in
@@ -77,17 +77,17 @@ to_facts page room n e =
 -- ── from an old page ──
 
 -- slots of an old page have depths that fit it
-all_shallow : (l : List Slot) → every (is_slot_over old_limit) l ≡ true → every fits_old (map name_in l) ≡ true
+all_shallow : (l : List Slot) → list_all (is_slot_over old_limit) l ≡ true → list_all fits_old (map name_in l) ≡ true
 all_shallow [] e = refl
 all_shallow (x ∷ l) e =
-    let one = and_0 (is_slot_over old_limit x) (every (is_slot_over old_limit) l) e in
-    λ i. and_1 (leb x.line 4294967295 && is_name x.name) (fits_old x.name) one i && all_shallow l (and_1 (is_slot_over old_limit x) (every (is_slot_over old_limit) l) e) i
+    let one = and_0 (is_slot_over old_limit x) (list_all (is_slot_over old_limit) l) e in
+    λ i. and_1 (leb x.line 4294967295 && is_name x.name) (fits_old x.name) one i && all_shallow l (and_1 (is_slot_over old_limit x) (list_all (is_slot_over old_limit) l) e) i
 
 module _ (old : Bytes) (k : Octets old) (e : keeps_old old ≡ true) (f : old_rises old ≡ true) where
   abbrev olds : List Slot
   olds = old_slots_of old
 
-  good : every is_slot (old_slots_of old) ≡ true
+  good : list_all is_slot (old_slots_of old) ≡ true
   good = widened (old_slots_of old) (slots_over_lem old_limit old k e)
 
   few : length (old_slots_of old) ≤ max_slots
@@ -96,20 +96,20 @@ module _ (old : Bytes) (k : Octets old) (e : keeps_old old ≡ true) (f : old_ri
   is_page : IsPage (flatten (pieces (old_slots_of old)))
   is_page = written_page (old_slots_of old) good few (rising_Rising (names_over old_limit old) f)
 
-  again : (room : ℕ) → length old ≤ room → to_old_outcome (flatten (pieces (old_slots_of old))) room ≡ record { answer = Accepted (length (old_slots_of old)); bytes = old }
+  again : (room : ℕ) → length old ≤ room → to_old_outcome (flatten (pieces (old_slots_of old))) room ≡ record { answer = Ok (length (old_slots_of old)); bytes = old }
   unfolding to_old_outcome
   again room h =
       let page = flatten (pieces olds) in
       let same = slots_back olds good in
-      let shallow : every fits_old (names_of page) ≡ true = ap (λ (l : List Slot). every fits_old (map name_in l)) same ∙ all_shallow olds (slots_over_lem old_limit old k e) in
+      let shallow : list_all fits_old (names_of page) ≡ true = ap (λ (l : List Slot). list_all fits_old (map name_in l)) same ∙ all_shallow olds (slots_over_lem old_limit old k e) in
       passed refuse (write (old_pieces (slots_of page)) room) (to_old_tests page) (is_page.0, (is_page.1, (shallow, tt)))
       ∙ ap (λ (l : List Slot). write (old_pieces l) room) same
       ∙ writes (old_pieces olds) room (length olds) old (length-map olds (bytes_over old_limit)) (page_back_over old_limit old k e) h
 
 -- ── to an old page ──
 
-module _ (page : Bytes) (k : Octets page) (e : keeps_layout page ≡ true) (f : rises page ≡ true) (t : every fits_old (names_of page) ≡ true) where
-  narrow : every (is_slot_over old_limit) (slots_of page) ≡ true
+module _ (page : Bytes) (k : Octets page) (e : keeps_layout page ≡ true) (f : rises page ≡ true) (t : list_all fits_old (names_of page) ≡ true) where
+  narrow : list_all (is_slot_over old_limit) (slots_of page) ≡ true
   narrow = narrowed (slots_of page) (slots_over_lem limit page k e) t
 
   is_old : IsOldPage (flatten (old_pieces (slots_of page)))
@@ -117,7 +117,7 @@ module _ (page : Bytes) (k : Octets page) (e : keeps_layout page ≡ true) (f : 
       let many : length (slots_of page) ≤ max_slots = omega (arith, length_slots page, (laid page e).few) in
       written_page_over old_limit (slots_of page) narrow many (rising_Rising (names_of page) f)
 
-  anew : (room : ℕ) → length page ≤ room → from_old_outcome (flatten (old_pieces (slots_of page))) room ≡ record { answer = Accepted (length (slots_of page)); bytes = page }
+  anew : (room : ℕ) → length page ≤ room → from_old_outcome (flatten (old_pieces (slots_of page))) room ≡ record { answer = Ok (length (slots_of page)); bytes = page }
   unfolding from_old_outcome
   anew room h =
       let old = flatten (old_pieces (slots_of page)) in
@@ -131,28 +131,28 @@ module _ (page : Bytes) (k : Octets page) (e : keeps_layout page ≡ true) (f : 
 depth_min : (s : Bytes) → length (name_of s) ≡ min (depth_of s) limit
 depth_min s = length-take (depth_of s) (tuples_at s head_size limit) ∙ ap (min (depth_of s)) (length_tuples_at s head_size limit)
 
-deeper : (l : List Bytes) → every fits_old (map name_in (map slot_of l)) ≡ false → (slot : Bytes) × In slot l × (old_limit < depth_of slot)
+deeper : (l : List Bytes) → list_all fits_old (map name_in (map slot_of l)) ≡ false → (slot : Bytes) × In slot l × (old_limit < depth_of slot)
 deeper [] e = absurd (let z : ◌≡◌ {A = ℕ} 0 1 = cc in omega arith)
 deeper (s ∷ l) e = by (fits_old (name_of s)) refl (λ q. deeper l q) e
   where
     by : (b : Bool) → fits_old (name_of s) ≡ b
-        → (every fits_old (map name_in (map slot_of l)) ≡ false → (slot : Bytes) × In slot l × (old_limit < depth_of slot))
-        → b && every fits_old (map name_in (map slot_of l)) ≡ false → (slot : Bytes) × In slot (s ∷ l) × (old_limit < depth_of slot)
+        → (list_all fits_old (map name_in (map slot_of l)) ≡ false → (slot : Bytes) × In slot l × (old_limit < depth_of slot))
+        → b && list_all fits_old (map name_in (map slot_of l)) ≡ false → (slot : Bytes) × In slot (s ∷ l) × (old_limit < depth_of slot)
     by true p rest q = let d = rest q in (d.0, In.tail d.1, d.2)
     by false p rest q = let d = depth_min s in let long = leb-false (length (name_of s)) old_limit p in (s, In.head refl, omega arith)
 
-too_deep_for : (l : List Bytes) → every keeps_slot l ≡ true → (slot : Bytes) → In slot l → old_limit < depth_of slot → every fits_old (map name_in (map slot_of l)) ≡ false
+too_deep_for : (l : List Bytes) → list_all keeps_slot l ≡ true → (slot : Bytes) → In slot l → old_limit < depth_of slot → list_all fits_old (map name_in (map slot_of l)) ≡ false
 too_deep_for [] v slot m h = absurd (Memᴰ.not-nil m)
 too_deep_for (s ∷ l) v slot m h = elim (Memᴰ.cases_cons m) [
   | inl e ↦
-      let fit = (kept s (and_0 (keeps_slot s) (every keeps_slot l) v)).fit in
+      let fit = (kept s (and_0 (keeps_slot s) (list_all keeps_slot l) v)).fit in
       let deep : old_limit < depth_of s = subst (λ (x : Bytes). old_limit < depth_of x) e h in
       let d = depth_min s in
-      ap (λ (b : Bool). b && every fits_old (map name_in (map slot_of l))) (lt-leb (length (name_of s)) old_limit (omega arith))
-  | inr n ↦ ap (λ (b : Bool). fits_old (name_of s) && b) (too_deep_for l (and_1 (keeps_slot s) (every keeps_slot l) v) slot n h) ∙ and-false (fits_old (name_of s))
+      ap (λ (b : Bool). b && list_all fits_old (map name_in (map slot_of l))) (lt-leb (length (name_of s)) old_limit (omega arith))
+  | inr n ↦ ap (λ (b : Bool). fits_old (name_of s) && b) (too_deep_for l (and_1 (keeps_slot s) (list_all keeps_slot l) v) slot n h) ∙ and-false (fits_old (name_of s))
 ]
 
-when_too_deep : (page : Bytes) → IsPage page → (room : ℕ) → ((to_old_outcome page room).answer ≡ Refused TooDeep) ↔ SomeDeeper page
+when_too_deep : (page : Bytes) → IsPage page → (room : ℕ) → ((to_old_outcome page room).answer ≡ Err TooDeep) ↔ SomeDeeper page
 unfolding to_old_outcome
 when_too_deep page v room = (
   λ e. by (refused_first (write (old_pieces (slots_of page)) room) (to_old_tests page) e),
@@ -166,10 +166,10 @@ when_too_deep page v room = (
     by (test (later p (later r (here t q)))) = deeper (parts_of page) t
     by (after p f) = let short = (write_refuses (old_pieces (slots_of page)) room f).0 in absurd (let z : ◌≡◌ {A = ℕ} 0 1 = cc in omega arith)
 
-all_fit_lem : (page : Bytes) → (SomeDeeper page → ⊥) → every fits_old (names_of page) ≡ true
-all_fit_lem page no_deeper = by (every fits_old (names_of page)) refl
+all_fit_lem : (page : Bytes) → (SomeDeeper page → ⊥) → list_all fits_old (names_of page) ≡ true
+all_fit_lem page no_deeper = by (list_all fits_old (names_of page)) refl
   where
-    by : (b : Bool) → every fits_old (names_of page) ≡ b → every fits_old (names_of page) ≡ true
+    by : (b : Bool) → list_all fits_old (names_of page) ≡ b → list_all fits_old (names_of page) ≡ true
     by true e = e
     by false e = absurd (no_deeper (deeper (parts_of page) e))
 
@@ -226,10 +226,10 @@ kinds_apart s k e f = elim (dec_lt 0 (length s)) [
 
 pub laws : Laws
 laws = record {
-  from_accepted = λ old k v room h. answered (from_done old room k v.0 v.1 (omega (arith, old_count old))) ∙ ap Accepted (sym (old_count old));
+  from_accepted = λ old k v room h. answered (from_done old room k v.0 v.1 (omega (arith, old_count old))) ∙ ap Ok (sym (old_count old));
   from_page = λ old k room n e. let g = from_facts old room n e in rw g.written (is_page old k g.layout g.order);
   too_deep_lem = when_too_deep;
-  to_accepted = λ page k v d room h. answered (to_done page room k v.0 v.1 (all_fit_lem page d) (omega (arith, length_slots page))) ∙ ap Accepted (sym (length_slots page));
+  to_accepted = λ page k v d room h. answered (to_done page room k v.0 v.1 (all_fit_lem page d) (omega (arith, length_slots page))) ∙ ap Ok (sym (length_slots page));
   to_page = λ page k room n e. let g = to_facts page room n e in rw g.written (is_old page k g.layout g.order g.shallow);
   from_slots = λ old k room n e. let g = from_facts old room n e in ap slots_of g.written ∙ slots_back (old_slots_of old) (good old k g.layout g.order);
   to_slots = λ page k room n e. let g = to_facts page room n e in ap old_slots_of g.written ∙ slots_back_over old_limit (slots_of page) (narrow page k g.layout g.order g.shallow);

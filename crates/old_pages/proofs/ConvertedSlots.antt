@@ -11,7 +11,7 @@ use lib.ListN.{length, get_or, take, drop, replicate, length-map, get_or-map}
 use lib.Seq.{take_at, take-take}
 use Rattle.names.specs.Names.{limit, is_name}
 use Rattle.numbers.specs.Bytes.{Bytes, Octets}
-use Rattle.numbers.specs.Lists.{every}
+use Rattle.std.specs.List.{list_all}
 use Rattle.numbers.proofs.Bools.{and_1}
 use Rattle.numbers.proofs.Every.{every_each}
 use Rattle.numbers.proofs.Octets.{octets_take, octets_drop}
@@ -76,7 +76,7 @@ length_new old = length-map (old_slots_of old) slot_bytes ∙ length-map (parts_
 abbrev pub cut_lent : Bytes → ℕ → Bytes
 cut_lent page i = take (slot_size * i + old_size - slot_size * i) (drop (slot_size * i) page)
 
-module _ (page : Bytes) (k : Octets page) (e : keeps_layout page ≡ true) (t : every fits_old (names_of page) ≡ true) (i : ℕ) (h : i < length page / slot_size) where
+module _ (page : Bytes) (k : Octets page) (e : keeps_layout page ≡ true) (t : list_all fits_old (names_of page) ≡ true) (i : ℕ) (h : i < length page / slot_size) where
   abbrev part : Bytes
   part = lent page (slot_size * i)
 

@@ -6,7 +6,7 @@ use Rattle.std.specs.Prelude.{ℕ, List, [], ◌∷◌, Bool}
 use Rattle.names.specs.Ordering.{Row}
 use Rattle.names.specs.Names.{fits_over}
 use Rattle.numbers.specs.Bytes.{Bytes}
-use Rattle.numbers.specs.Lists.{every}
+use Rattle.std.specs.List.{list_all}
 use Rattle.slots.specs.Slots.{size_over, Slot}
 use Rattle.pages.specs.Pages.{slots_over, pieces_over, layout_over, rises_over, slots_of, names_of, pieces, keeps_layout, rises}
 use Rattle.answers.specs.Answers.{Outcome, Test, ◌else◌, outcome}
@@ -49,7 +49,7 @@ from_old_tests old = keeps_old old else BadLayout ∷ old_rises old else NotRisi
 
 -- "1, 2, then 6 for a depth that doesn't fit the old page"
 abbrev pub to_old_tests : Bytes → List Test
-to_old_tests page = keeps_layout page else BadLayout ∷ rises page else NotRising ∷ every fits_old (names_of page) else TooDeep ∷ []
+to_old_tests page = keeps_layout page else BadLayout ∷ rises page else NotRising ∷ list_all fits_old (names_of page) else TooDeep ∷ []
 
 -- "An old page converts to a new one": the same slots, "then 8"
 unfoldable pub from_old_outcome : Bytes → ℕ → Outcome

@@ -5,7 +5,7 @@
 ghost use Rattle.std.specs.Prelude.{◌≡◌, true, ◌*◌, ◌/◌, ◌≤◌, length};
 ghost use mathlib.Core.List.{flatten};
 ghost use Rattle.numbers.specs.Bytes.{put};
-ghost use Rattle.numbers.specs.Lists.{every};
+ghost use Rattle.std.specs.List.{list_all};
 ghost use Rattle.slots.specs.Slots.{slot_size};
 ghost use Rattle.pages.specs.Pages.{slots_of, names_of, pieces, keeps_layout};
 ghost use Rattle.answers.specs.Answers.{leaves};
@@ -42,7 +42,7 @@ fn write_new(old: &[u8], out: &mut [u8])
 
 // The depth of every slot of a page is one of an old page.
 fn depths_fit(page: &[u8]) -> bool
-    ensures { result ≡ every fits_old (names_of page.now) }
+    ensures { result ≡ list_all fits_old (names_of page.now) }
 {
     let n = page.len() / SLOT;
     let mut k: usize = 0;
@@ -59,7 +59,7 @@ fn depths_fit(page: &[u8]) -> bool
 
 // The slots of a page as those of an old page, from the start of out: each without its last tuples, which are zero.
 fn write_old(page: &[u8], out: &mut [u8])
-    requires { (keeps_layout page.now ≡ true) × (every fits_old (names_of page.now) ≡ true) × (old_size * (length page.now / slot_size) ≤ length out.old) }
+    requires { (keeps_layout page.now ≡ true) × (list_all fits_old (names_of page.now) ≡ true) × (old_size * (length page.now / slot_size) ≤ length out.old) }
     ensures { out.new ≡ put out.old 0 (flatten (old_pieces (slots_of page.now))) }
 {
     let n = page.len() / SLOT;
@@ -78,16 +78,16 @@ pub fn from_old(old: &[u8], out: &mut [u8]) -> Answer
     ensures out_after { out.new ≡ leaves (from_old_outcome old.now (length out.old)) out.old }
 {
     match pages::look_over(old, OLD_LIMIT) {
-        Seen::Broken => return Answer::Refused(Refusal::BadLayout),
-        Seen::NotRising => return Answer::Refused(Refusal::NotRising),
+        Seen::Broken => return Err(Refusal::BadLayout),
+        Seen::NotRising => return Err(Refusal::NotRising),
         Seen::Rising => {}
     }
     let n = old.len() / OLD_SLOT;
     if out.len() < SLOT * n {
-        return Answer::Refused(Refusal::Short);
+        return Err(Refusal::Short);
     }
     write_new(old, out);
-    Answer::Accepted(n)
+    Ok(n)
 }
 
 // 1, 2, 6, 8; else the old page with the names and line numbers of the page.
@@ -96,17 +96,17 @@ pub fn to_old(page: &[u8], out: &mut [u8]) -> Answer
     ensures out_after { out.new ≡ leaves (to_old_outcome page.now (length out.old)) out.old }
 {
     match pages::look(page) {
-        Seen::Broken => return Answer::Refused(Refusal::BadLayout),
-        Seen::NotRising => return Answer::Refused(Refusal::NotRising),
+        Seen::Broken => return Err(Refusal::BadLayout),
+        Seen::NotRising => return Err(Refusal::NotRising),
         Seen::Rising => {}
     }
     if !depths_fit(page) {
-        return Answer::Refused(Refusal::TooDeep);
+        return Err(Refusal::TooDeep);
     }
     let n = page.len() / SLOT;
     if out.len() < OLD_SLOT * n {
-        return Answer::Refused(Refusal::Short);
+        return Err(Refusal::Short);
     }
     write_old(page, out);
-    Answer::Accepted(n)
+    Ok(n)
 }

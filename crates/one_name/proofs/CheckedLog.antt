@@ -17,7 +17,7 @@ use Rattle.names.proofs.Laws.{rising_Rising}
 use Rattle.numbers.specs.Bytes.{Bytes, at16}
 use Rattle.numbers.proofs.ReadNumbers.{two_within}
 use Rattle.slots.specs.Tuples.{tuple_at}
-use Rattle.numbers.specs.Lists.{every}
+use Rattle.std.specs.List.{list_all}
 use Rattle.slots.specs.Slots.{head_size, slot_size, depth_of, name_of, slot_of, keeps_slot}
 use Rattle.slots.proofs.RoundTrip.{kept}
 use Rattle.pages.specs.Pages.{max_slots, parts, slots_of, name_in, names_of, keeps_layout, rises, line_is_zero, is_log}
@@ -43,7 +43,7 @@ logged log e =
     let a = keeps_layout log in
     let b = rises log in
     let d = leb 1 (length (slots_of log)) in
-    let e₁ = and_0 (a && b && d) (every line_is_zero (slots_of log)) e in
+    let e₁ = and_0 (a && b && d) (list_all line_is_zero (slots_of log)) e in
     let e₂ = and_0 (a && b) d e₁ in
     let n = length_names log (length log / slot_size) in
     record {
@@ -67,13 +67,13 @@ first_at log e =
     let n = length log / slot_size in
     go n (logged log e).some (laid log (logged log e).layout).good (length_names log n)
   where
-    go : (n : ℕ) → 1 ≤ length (names_of log) → every keeps_slot (parts n log) ≡ true → length (names_of log) ≡ n →
+    go : (n : ℕ) → 1 ≤ length (names_of log) → list_all keeps_slot (parts n log) ≡ true → length (names_of log) ≡ n →
         at16 log head_size ≡ first_position (map name_in (map slot_of (parts n log)))
     go zero h g q = absurd (omega arith)
     go (suc n) h g q =
         let first = take slot_size log in
         let rest = parts n (drop slot_size log) in
-        let k = kept first (and_0 (keeps_slot first) (every keeps_slot rest) g) in
+        let k = kept first (and_0 (keeps_slot first) (list_all keeps_slot rest) g) in
         sym (slot_position first (map name_in (map slot_of rest)) (depth_of first - 1) (omega (arith, k.deep)) ∙ two_within slot_size log head_size (omega arith))
 
 -- ── its names ──

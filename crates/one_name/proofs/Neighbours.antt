@@ -13,7 +13,7 @@ use Rattle.names.specs.declared.Author.{Author}
 use Rattle.names.specs.Ordering.{Row, ◌<ⁿ◌, Rising}
 use Rattle.names.specs.Names.{m, marker}
 use Rattle.names.proofs.Validity.{Ordinary, Valid, valid_ends}
-use Rattle.numbers.specs.Lists.{every}
+use Rattle.std.specs.List.{list_all}
 use Rattle.numbers.proofs.Bools.{or_0, or_1, yes_no}
 use Rattle.numbers.proofs.Every.{every_each}
 use Rattle.name_renames.specs.Renaming.{take_back}
@@ -57,7 +57,7 @@ module _ (log : List Row) (vs : (k : ℕ) → k < length log → Valid (at log k
 
   -- ── stems with no marker from some tuple on, which no name of the log lacks ──
 
-  module _ (from : ℕ) (deep : (k : ℕ) → k < length log → from ≤ length (at log k)) (us : every (unmarked_from from) log ≡ true) where
+  module _ (from : ℕ) (deep : (k : ℕ) → k < length log → from ≤ length (at log k)) (us : list_all (unmarked_from from) log ≡ true) where
     logged_clear : (k : ℕ) → k < length log → (n : ℕ) → from ≤ n → marked_at (at log k) n ≡ false
     logged_clear k s n h = clear_at (at log k) n (λ l. none_from from (at log k) (every_each (unmarked_from from) log k [] s us) n h l)
 
@@ -134,7 +134,7 @@ module _ (log : List Row) (vs : (k : ℕ) → k < length log → Valid (at log k
           rw (← (seat_back author log n o f.seat), ← (seat_back author log n o g.seat)) (rise (stem c log first) (rest c first) (rest d second) (some first f.stands) before free clear)
 
       -- where none stands behind as many tuples as every name of the log has
-      pub clear_kept : (from : ℕ) → ((k : ℕ) → k < length log → from ≤ length (at log k)) → every (unmarked_from from) log ≡ true → clear_from author log from c ≡ true → clear_from author log from d ≡ true →
+      pub clear_kept : (from : ℕ) → ((k : ℕ) → k < length log → from ≤ length (at log k)) → list_all (unmarked_from from) log ≡ true → clear_from author log from c ≡ true → clear_from author log from d ≡ true →
           take_back author log c <ⁿ take_back author log d
       clear_kept from deep us uc ud =
           let f = found author log c n in

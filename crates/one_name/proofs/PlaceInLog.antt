@@ -8,8 +8,9 @@ use native.Mathlib.Nat.{not-suc-le-zero}
 use native.Mathlib.Omega.{arith}
 use lib.ListN.{length, get_or}
 use Rattle.names.specs.declared.Author.{Author}
-use Rattle.names.specs.declared.Order.{Order}
-use Rattle.names.specs.Ordering.{Row, compare_rows, is_less, ◌<ⁿ◌, Rising}
+use Rattle.std.specs.declared.cmp.Ordering.{Ordering}
+use Rattle.names.specs.Ordering.{Row, compare_rows, ◌<ⁿ◌, Rising}
+use Rattle.std.specs.Ordering.{is_lt}
 use Rattle.names.proofs.Laws.{tail_rising, <ⁿ_trans, Tri, below as is_below, level, above, tri_n, row_less}
 use Rattle.pages.specs.declared.Place.{Place}
 use Rattle.pages.specs.declared.Place.TheVariants.{Here, Gap}
@@ -49,7 +50,7 @@ somewhere : (x : Row) (l : List Row) → Rising l → (p : Place) × Stands x l 
 somewhere x [] o = (Gap 0, gap {k = 0} (omega arith) (λ i h. absurd (not-suc-le-zero h)) (λ i h j. absurd (not-suc-le-zero j)))
 somewhere x (r ∷ l) o = go (compare_rows r x) (tri_n r x) (somewhere x l (tail_rising o))
   where
-    go : (c : Order) → Tri ◌<ⁿ◌ r x c → (p : Place) × Stands x l p → (p : Place) × Stands x (r ∷ l) p
+    go : (c : Ordering) → Tri ◌<ⁿ◌ r x c → (p : Place) × Stands x l p → (p : Place) × Stands x (r ∷ l) p
     go _ (is_below h) (p, s) = after h s
     go _ (level e) s = (Here 0, here {k = 0} (omega arith) e)
     go _ (above h) s = (Gap 0, gap {k = 0} (omega arith) (λ i j. absurd (not-suc-le-zero j)) (to_right o 0 (omega arith) h))
@@ -96,9 +97,9 @@ below_within x l o = omega (arith, within (stands x l o), index_is x l)
 
 pub place_grows : (x y : Row) (l : List Row) → x <ⁿ y → below x l ≤ below y l
 place_grows x y [] h = omega arith
-place_grows x y (r ∷ l) h = go (compare_rows r x) (tri_n r x) refl (is_less (compare_rows r y)) refl (place_grows x y l h)
+place_grows x y (r ∷ l) h = go (compare_rows r x) (tri_n r x) refl (is_lt (compare_rows r y)) refl (place_grows x y l h)
   where
-    go : (o : Order) → Tri ◌<ⁿ◌ r x o → compare_rows r x ≡ o → (b : Bool) → is_less (compare_rows r y) ≡ b → below x l ≤ below y l →
+    go : (o : Ordering) → Tri ◌<ⁿ◌ r x o → compare_rows r x ≡ o → (b : Bool) → is_lt (compare_rows r y) ≡ b → below x l ≤ below y l →
         below x (r ∷ l) ≤ below y (r ∷ l)
     go o (is_below k) d b e f = rw (row_less k, row_less (<ⁿ_trans k h)) (omega arith)
     go o (level k) d true e f = rw (d, e) (omega arith)

@@ -12,7 +12,8 @@ use lib.ListN.{length, get_or, drop}
 use lib.Signed.{non_neg}
 use Rattle.names.specs.declared.Author.{Author}
 use Rattle.names.specs.declared.Tuple.{Tuple}
-use Rattle.names.specs.Ordering.{Row, compare_rows, is_less, ◌<ⁿ◌, ◌≤ⁿ◌}
+use Rattle.names.specs.Ordering.{Row, compare_rows, ◌<ⁿ◌, ◌≤ⁿ◌}
+use Rattle.std.specs.Ordering.{is_lt}
 use Rattle.names.specs.Names.{m}
 use Rattle.names.proofs.TestedOrder.{is_under_lem, not_under}
 use Rattle.numbers.specs.Bytes.{Bytes}
@@ -23,8 +24,8 @@ use Rattle.name_renames.proofs.ByTest.{low_as}
 use Rattle.name_renames.proofs.BackByIndex.{Within, lies_within, within_long, within_natural, within_at, back_logged, back_in_gap}
 use Rattle.one_name.proofs.CheckedLog.{logged}
 
-above_as : (x : Row) {u v : Tuple} {b r : Bool} → u ≡ v → r ≡ is_less (compare_rows (u ∷ []) x) → r ≡ b → is_less (compare_rows (v ∷ []) x) ≡ b
-above_as x d f g = sym (ap (λ (t : Tuple). is_less (compare_rows (t ∷ []) x)) d) ∙ sym f ∙ g
+above_as : (x : Row) {u v : Tuple} {b r : Bool} → u ≡ v → r ≡ is_lt (compare_rows (u ∷ []) x) → r ≡ b → is_lt (compare_rows (v ∷ []) x) ≡ b
+above_as x d f g = sym (ap (λ (t : Tuple). is_lt (compare_rows (t ∷ []) x)) d) ∙ sym f ∙ g
 
 module _ (log : Bytes) (author : Author) (x : Row) (e : is_log log ≡ true) where
   abbrev first : ℕ
@@ -40,8 +41,8 @@ module _ (log : Bytes) (author : Author) (x : Row) (e : is_log log ≡ true) whe
   -- ── the tests, of a tuple t that the code has made with the position p ──
 
   module _ {p : ℕ} (q : p ≡ first_position (names_of log)) {t : Tuple} {r : Bool} where
-    module _ (d : t ≡ lead p author (pos 0)) (f : r ≡ is_less (compare_rows x (t ∷ []))) where
-      first_as : {b : Bool} → r ≡ b → is_less (compare_rows x (N first author 0)) ≡ b
+    module _ (d : t ≡ lead p author (pos 0)) (f : r ≡ is_lt (compare_rows x (t ∷ []))) where
+      first_as : {b : Bool} → r ≡ b → is_lt (compare_rows x (N first author 0)) ≡ b
       first_as g = low_as refl (d ∙ ap (λ (n : ℕ). lead n author (pos 0)) q) f g
 
       pub under_first : r ≡ true → x <ⁿ N (first_position (names_of log)) author 0
@@ -50,8 +51,8 @@ module _ (log : Bytes) (author : Author) (x : Row) (e : is_log log ≡ true) whe
       pub from_first : r ≡ false → N (first_position (names_of log)) author 0 ≤ⁿ x
       from_first g = not_under x (N first author 0) (first_as g)
 
-    module _ (d : t ≡ lead p author (pos (length log / slot_size - 1))) (f : r ≡ is_less (compare_rows (t ∷ []) x)) where
-      last_as : {b : Bool} → r ≡ b → is_less (compare_rows (N first author last) x) ≡ b
+    module _ (d : t ≡ lead p author (pos (length log / slot_size - 1))) (f : r ≡ is_lt (compare_rows (t ∷ []) x)) where
+      last_as : {b : Bool} → r ≡ b → is_lt (compare_rows (N first author last) x) ≡ b
       last_as g = above_as x (d ∙ (λ i. lead (q i) author (pos (last_is i)))) f g
 
       pub over_last : r ≡ true → N (first_position (names_of log)) author (length (names_of log) - 1) <ⁿ x

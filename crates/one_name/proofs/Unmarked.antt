@@ -8,7 +8,7 @@ use borrow.Author.Tests.{not-true}
 use lib.ListN.{length, get_or, drop, length-drop}
 use lib.Seq.{drop-nil, get_or-drop}
 use Rattle.names.specs.declared.Tuple.{Tuple}
-use Rattle.names.specs.declared.Order.TheVariants.{Less}
+use Rattle.std.specs.declared.cmp.Ordering.TheVariants.{Less}
 use Rattle.names.specs.Ordering.{Row, compare_tuples}
 use Rattle.names.specs.Names.{m, M, marker}
 use Rattle.names.proofs.Laws.{tuple_less}

@@ -4,7 +4,7 @@ use Rattle.std.specs.Prelude.{◌≡◌, List, Bool, true, false}
 use Rattle.names.specs.declared.Author.{Author}
 use Rattle.names.specs.Ordering.{Row}
 use Rattle.names.specs.Names.{is_name}
-use Rattle.numbers.specs.Lists.{every}
+use Rattle.std.specs.List.{list_all}
 use Rattle.name_renames.specs.Renaming.{take_back}
 use Rattle.name_renames.specs.Rules.{◌below◌}
 use Rattle.name_renames.specs.Laws.{Log}
@@ -34,5 +34,5 @@ module _ (author : Author) (log : List Row) where
     pub apart_kept : (c d : Row) → Neighbours c d → meet c d ≡ false → take_back author log c below take_back author log d
     -- So do any two, where no name of the log, and neither of them that is taken back to tuples of its own, has an end marker behind as many tuples as
     -- every name of the log has.
-    pub clear_kept : (c d : Row) → Neighbours c d → every (unmarked_from (shallowest_of log)) log ≡ true →
+    pub clear_kept : (c d : Row) → Neighbours c d → list_all (unmarked_from (shallowest_of log)) log ≡ true →
         clear_from author log (shallowest_of log) c ≡ true → clear_from author log (shallowest_of log) d ≡ true → take_back author log c below take_back author log d

@@ -5,23 +5,25 @@
 
 ghost use Rattle.std.specs.Prelude.{◌≡◌, [], ◌∷◌, ◌++◌, true, ◌&&◌, ◌+◌, ◌-◌, ◌*◌, ◌≤◌, ◌<◌, max, min, pos, length, take, drop, get_or};
 ghost use Rattle.std.specs.Int.Signed.{non_neg};
-ghost use Rattle.names.specs.Ordering.{compare_rows, is_less, is_same, ◌≤ⁿ◌};
+ghost use Rattle.names.specs.Ordering.{compare_rows, ◌≤ⁿ◌};
+ghost use Rattle.std.specs.Ordering.{is_lt, is_eq};
 ghost use Rattle.names.specs.Names.{limit, row_of, is_name, one_below, Gives, m, M};
 ghost use Rattle.slots.specs.Tuples.{tuple_size, row_at, Lies};
 ghost use Rattle.pages.specs.Pages.{max_slots, names_of, rises, keeps_layout, is_log};
 ghost use Rattle.pages.specs.Places.{below, place_of};
 ghost use Rattle.name_renames.specs.Renaming.{first_position, lead as lead_tuple, N, case_of, if_below, rename as rename_row, strip_below, strip_above, take_back as take_back_row};
 ghost use Rattle.name_renames.specs.Alone.{is_above, in_gap, alone_within, alone as is_alone};
-ghost use Rattle.numbers.specs.Lists.{every};
+ghost use Rattle.std.specs.List.{list_all};
 ghost use Rattle.one_name.specs.Markers.{unmarked_from};
 ghost use Rattle.one_name.specs.Changes.{index_of, change_of, changed_by, gains as gains_one};
 ghost use Rattle.one_name.specs.Backs.{shaped, Stands, Means, single, deepest_of, shallowest_of, under_shape, over_shape, between_shape, within_shape, shape_of};
 ghost use Rattle.one_name.specs.Stems.{stem, is_behind, is_ahead, is_own, clear_from, marked_at, may_meet, row_of_stem, StemLies};
 
 use name_renames::Case;
-use names::{Author, Joined, LIMIT, Name, Order, Tuple};
+use names::{Author, Joined, LIMIT, Name, Tuple};
 use pages::Place;
 use slots::{HEAD, SLOT, Span, TUPLE};
+use std::cmp::Ordering;
 
 // The bytes of as many tuples as a name has.
 const ROW: usize = TUPLE * LIMIT;
@@ -101,7 +103,7 @@ fn is_unmarked(s: &[u8], x: Span, from: usize) -> bool
 // No end marker is in a name of the log from its tuple `from` on.
 pub fn all_unmarked(log: &[u8], from: usize) -> bool
     requires { (keeps_layout log.now ≡ true) × (from ≤ limit) }
-    ensures { result ≡ every (unmarked_from from) (names_of log.now) }
+    ensures { result ≡ list_all (unmarked_from from) (names_of log.now) }
 {
     let n = log.len() / SLOT;
     let mut k: usize = 0;
@@ -174,9 +176,9 @@ fn case_below(p: u16, author: Author, s: &[u8], x: Span) -> Case
     ensures { result ≡ if_below (row_at s.now x) (N p author 0) Case.KeepBelow Case.PutBelow }
 {
     match slots::compare_to_one(s, x.at, x.count, lead(p, author, 0)) {
-        Order::Less => Case::KeepBelow,
-        Order::Same => Case::PutBelow,
-        Order::More => Case::PutBelow,
+        Ordering::Less => Case::KeepBelow,
+        Ordering::Equal => Case::PutBelow,
+        Ordering::Greater => Case::PutBelow,
     }
 }
 
@@ -186,9 +188,9 @@ fn case_above(p: u16, author: Author, k: usize, s: &[u8], x: Span) -> Case
     ensures { result ≡ if_below (row_at s.now x) (N p author k) (Case.PutAbove k) Case.KeepAbove }
 {
     match slots::compare_to_one(s, x.at, x.count, numbered(p, author, k)) {
-        Order::Less => Case::PutAbove(k),
-        Order::Same => Case::KeepAbove,
-        Order::More => Case::KeepAbove,
+        Ordering::Less => Case::PutAbove(k),
+        Ordering::Equal => Case::KeepAbove,
+        Ordering::Greater => Case::KeepAbove,
     }
 }
 
@@ -225,9 +227,9 @@ fn place_from(log: &[u8], s: &[u8], x: Span, j: usize) -> Place
         }
         let r = pages::span_of(log, k);
         match slots::compare_rows(log, r.at, r.count, s, x.at, x.count) {
-            Order::Less => {}
-            Order::Same => break Place::Here(k),
-            Order::More => break Place::Gap(k),
+            Ordering::Less => {}
+            Ordering::Equal => break Place::Here(k),
+            Ordering::Greater => break Place::Gap(k),
         }
         k += 1;
     }
@@ -334,32 +336,32 @@ pub enum Back {
 // A name that stands in s is below the name of one tuple.
 fn is_below(s: &[u8], x: Span, t: Tuple) -> bool
     requires { Lies s.now x }
-    ensures { result ≡ is_less (compare_rows (row_at s.now x) (t ∷ [])) }
+    ensures { result ≡ is_lt (compare_rows (row_at s.now x) (t ∷ [])) }
 {
-    names::is_less(slots::compare_to_one(s, x.at, x.count, t))
+    slots::compare_to_one(s, x.at, x.count, t).is_lt()
 }
 
 // A name that stands in s is above the name of one tuple.
 fn is_above(s: &[u8], x: Span, t: Tuple) -> bool
     requires { Lies s.now x }
-    ensures { result ≡ is_less (compare_rows (t ∷ []) (row_at s.now x)) }
+    ensures { result ≡ is_lt (compare_rows (t ∷ []) (row_at s.now x)) }
 {
     match slots::compare_to_one(s, x.at, x.count, t) {
-        Order::Less => false,
-        Order::Same => false,
-        Order::More => true,
+        Ordering::Less => false,
+        Ordering::Equal => false,
+        Ordering::Greater => true,
     }
 }
 
 // A name that stands in s begins with the tuple t.
 fn begins(s: &[u8], x: Span, t: Tuple) -> bool
     requires { Lies s.now x }
-    ensures { result ≡ is_same (compare_rows (take 1 (row_at s.now x)) (t ∷ [])) }
+    ensures { result ≡ is_eq (compare_rows (take 1 (row_at s.now x)) (t ∷ [])) }
 {
     if x.count < 1 {
         return false;
     }
-    names::is_same(slots::compare_to_one(s, x.at, 1, t))
+    slots::compare_to_one(s, x.at, 1, t).is_eq()
 }
 
 // The tuples of c after the first `cut`.
@@ -373,7 +375,7 @@ pub fn without(s: &[u8], c: Span, cut: usize) -> Span
 }
 
 // A name that stands in s against r(k).
-fn against(log: &[u8], k: usize, s: &[u8], v: Span) -> Order
+fn against(log: &[u8], k: usize, s: &[u8], v: Span) -> Ordering
     requires { Lies s.now v }
     ensures { result ≡ compare_rows (row_at s.now v) (get_or (names_of log.now) k []) }
 {
@@ -387,9 +389,9 @@ fn under(log: &[u8], k: usize, s: &[u8], c: Span, cut: usize) -> Back
     ensures { result ≡ under_shape (row_at s.now c) (names_of log.now) k cut }
 {
     match against(log, k, s, without(s, c, cut)) {
-        Order::Less => Back::Own(cut),
-        Order::Same => Back::Ahead(k, cut),
-        Order::More => Back::Ahead(k, cut),
+        Ordering::Less => Back::Own(cut),
+        Ordering::Equal => Back::Ahead(k, cut),
+        Ordering::Greater => Back::Ahead(k, cut),
     }
 }
 
@@ -399,9 +401,9 @@ fn over(log: &[u8], k: usize, s: &[u8], c: Span, cut: usize) -> Back
     ensures { result ≡ over_shape (row_at s.now c) (names_of log.now) k cut }
 {
     match against(log, k, s, without(s, c, cut)) {
-        Order::Less => Back::Behind(k, cut),
-        Order::Same => Back::Behind(k, cut),
-        Order::More => Back::Own(cut),
+        Ordering::Less => Back::Behind(k, cut),
+        Ordering::Equal => Back::Behind(k, cut),
+        Ordering::Greater => Back::Own(cut),
     }
 }
 
@@ -412,9 +414,9 @@ fn between(log: &[u8], k: usize, s: &[u8], c: Span) -> Back
     ensures { result ≡ between_shape (row_at s.now c) (names_of log.now) k }
 {
     match against(log, k, s, without(s, c, 1)) {
-        Order::Less => Back::Behind(k, 1),
-        Order::Same => Back::Behind(k, 1),
-        Order::More => under(log, k + 1, s, c, 1),
+        Ordering::Less => Back::Behind(k, 1),
+        Ordering::Equal => Back::Behind(k, 1),
+        Ordering::Greater => under(log, k + 1, s, c, 1),
     }
 }
 
@@ -630,7 +632,7 @@ fn is_clear(log: &[u8], author: Author, s: &[u8], c: Span, from: usize) -> bool
 // `clear_kept` (proofs/Neighbours.antt; in specs/Laws.antt `clear_kept`).
 pub fn all_clear(page: &[u8], log: &[u8], author: Author, from: usize) -> bool
     requires { (keeps_layout page.now ≡ true) × (is_log log.now ≡ true) × (from ≤ limit) }
-    ensures { result ≡ every (clear_from author (names_of log.now) from) (names_of page.now) }
+    ensures { result ≡ list_all (clear_from author (names_of log.now) from) (names_of page.now) }
 {
     let n = page.len() / SLOT;
     let mut k: usize = 0;
@@ -653,11 +655,11 @@ fn is_within(log: &[u8], k: usize, s: &[u8], t: Span) -> bool
     ensures { result ≡ in_gap (names_of log.now) k (row_at s.now t) }
 {
     match against(log, k, s, t) {
-        Order::Less => return false,
-        Order::Same => return false,
-        Order::More => {}
+        Ordering::Less => return false,
+        Ordering::Equal => return false,
+        Ordering::Greater => {}
     }
-    names::is_less(against(log, k + 1, s, t))
+    against(log, k + 1, s, t).is_lt()
 }
 
 // "c = N(k), 0 ≤ k < n", or "c = N(k)·t" with t above r(k) and below r(k+1).
@@ -678,9 +680,9 @@ fn is_over(log: &[u8], k: usize, s: &[u8], v: Span) -> bool
     ensures { result ≡ is_above (row_at s.now v) (get_or (names_of log.now) k []) }
 {
     match against(log, k, s, v) {
-        Order::Less => false,
-        Order::Same => false,
-        Order::More => true,
+        Ordering::Less => false,
+        Ordering::Equal => false,
+        Ordering::Greater => true,
     }
 }
 
@@ -692,7 +694,7 @@ pub fn is_alone(log: &[u8], author: Author, s: &[u8], c: Span) -> bool
 {
     let p = first_position(log);
     if is_below(s, c, lead(p, author, 0)) {
-        return names::is_less(against(log, 0, s, without(s, c, strip_below(p, author, s, c))));
+        return against(log, 0, s, without(s, c, strip_below(p, author, s, c))).is_lt();
     }
     let last = log.len() / SLOT - 1;
     if is_above(s, c, numbered(p, author, last)) {

@@ -12,7 +12,7 @@ use Rattle.names.specs.Ordering.{Row, rising}
 use Rattle.names.specs.Names.{limit, fits}
 use Rattle.names.proofs.Laws.{rising_Rising, Rising_rising}
 use Rattle.numbers.specs.Bytes.{Bytes}
-use Rattle.numbers.specs.Lists.{every}
+use Rattle.std.specs.List.{list_all}
 use Rattle.numbers.proofs.Bools.{and_0, and_1}
 use Rattle.numbers.proofs.Every.{every_each, every_map}
 use Rattle.slots.specs.Tuples.{tuples_at}
@@ -31,14 +31,14 @@ use Rattle.page_renames.proofs.Books.{Asked}
 use Rattle.page_renames.proofs.Carried.{all_every}
 
 -- a name that is read from a slot's bytes has at most `limit` tuples, whatever the bytes
-slots_fit : (l : List Bytes) → every fits (map name_in (map slot_of l)) ≡ true
+slots_fit : (l : List Bytes) → list_all fits (map name_in (map slot_of l)) ≡ true
 slots_fit [] = refl
 slots_fit (s ∷ l) =
     let t = length-take (depth_of s) (tuples_at s head_size limit) in
     let d = length_tuples_at s head_size limit in
     λ i. le-leb (length (name_of s)) limit (omega arith) i && slots_fit l i
 
-names_fit : (page : Bytes) → every fits (names_of page) ≡ true
+names_fit : (page : Bytes) → list_all fits (names_of page) ≡ true
 names_fit page = slots_fit (parts_of page)
 
 module _ (page log : Bytes) (author : Author) where
@@ -48,14 +48,14 @@ module _ (page log : Bytes) (author : Author) where
   abbrev test : Row → Type 0
   test c = alone author (names_of log) c ≡ true
 
-  module _ (v : Asked page log author) (a : every (alone author (names_of log)) (names_of page) ≡ true) where
-    each_fits : (l : List Row) → every (alone author (names_of log)) l ≡ true → every fits l ≡ true → every (λ (c : Row). fits (back c)) l ≡ true
+  module _ (v : Asked page log author) (a : list_all (alone author (names_of log)) (names_of page) ≡ true) where
+    each_fits : (l : List Row) → list_all (alone author (names_of log)) l ≡ true → list_all fits l ≡ true → list_all (λ (c : Row). fits (back c)) l ≡ true
     each_fits [] e f = refl
     each_fits (c ∷ l) e f =
         let x = alone author (names_of log) in
         let n = (logged log v.logged).some in
-        let h = alone_fits author (names_of log) c n (and_0 (x c) (every x l) e) (names_fit log) (and_0 (fits c) (every fits l) f) in
-        let t = each_fits l (and_1 (x c) (every x l) e) (and_1 (fits c) (every fits l) f) in
+        let h = alone_fits author (names_of log) c n (and_0 (x c) (list_all x l) e) (names_fit log) (and_0 (fits c) (list_all fits l) f) in
+        let t = each_fits l (and_1 (x c) (list_all x l) e) (and_1 (fits c) (list_all fits l) f) in
         λ i. h i && t i
 
     fit : all_fit back page ≡ true
@@ -69,5 +69,5 @@ module _ (page log : Bytes) (author : Author) where
     pub alone_passes : Passed (take_back_tests page log author)
     alone_passes = (fit, (rise, tt))
 
-  pub alone_at_lem : (k : ℕ) → k < length page / slot_size → every (alone author (names_of log)) (names_of page) ≡ true → alone author (names_of log) (get_or (names_of page) k []) ≡ true
+  pub alone_at_lem : (k : ℕ) → k < length page / slot_size → list_all (alone author (names_of log)) (names_of page) ≡ true → alone author (names_of log) (get_or (names_of page) k []) ≡ true
   alone_at_lem k h a = every_each (alone author (names_of log)) (names_of page) k [] (omega (arith, length_names page (length page / slot_size))) a

@@ -7,7 +7,8 @@ use Prim.Native.Nat.{ℕ, ◌-◌, ◌/◌, ◌<◌, ◌≤◌}
 use native.Mathlib.Omega.{arith}
 use lib.ListN.{length, get_or}
 use Rattle.names.specs.declared.Author.{Author}
-use Rattle.names.specs.Ordering.{Row, is_less, compare_rows}
+use Rattle.names.specs.Ordering.{Row, compare_rows}
+use Rattle.std.specs.Ordering.{is_lt}
 use Rattle.names.proofs.Laws.{rising_Rising, row_less}
 use Rattle.numbers.specs.Bytes.{Bytes}
 use Rattle.slots.specs.Slots.{slot_size}
@@ -55,7 +56,7 @@ module _ (page log : Bytes) (author : Author) (v : Asked page log author) where
 
   -- names i - 1 and i, with the stems x and y
   pub apart : (i : ℕ) → 1 ≤ i → i < length page / slot_size → (x y : Stem) → Tells page log (name (i - 1)) x (shape (i - 1)) → Tells page log (name i) y (shape i) →
-      may_meet x.behind y.ahead (row_of_stem page log x) (row_of_stem page log y) ≡ false → is_less (compare_rows (back (i - 1)) (back i)) ≡ true
+      may_meet x.behind y.ahead (row_of_stem page log x) (row_of_stem page log y) ≡ false → is_lt (compare_rows (back (i - 1)) (back i)) ≡ true
   apart i one h x y s t e =
       let l = names_of log in
       let w = logged log v.logged in
@@ -66,4 +67,4 @@ module _ (page log : Bytes) (author : Author) (v : Asked page log author) where
       let vd = page_names page v.layout i (within_names page i h) in
       let below = index_below (rising_Rising (names_of page) v.rising) (i - 1) i (omega arith) (within_names page i h) in
       let free = sym (λ k. may_meet (s.0.0 k) (t.0.1 k) (s.1.1 k) (t.1.1 k)) ∙ e in
-      ap is_less (row_less (apart_kept l (page_names log w.layout) c d vc vd author w.some w.rising below free))
+      ap is_lt (row_less (apart_kept l (page_names log w.layout) c d vc vd author w.some w.rising below free))

@@ -21,11 +21,11 @@ use Rattle.name_renames.proofs.Forward.{rename_rising}
 use Rattle.name_renames.proofs.GivenBack.{back_rename}
 use Rattle.name_renames.proofs.Validity.{rename_valid_all, take_back_valid_all}
 use Rattle.numbers.specs.Bytes.{Bytes, Octets}
-use Rattle.numbers.specs.Lists.{every}
+use Rattle.std.specs.List.{list_all}
 use Rattle.answers.specs.Answers.{Outcome, Test, number_of, ask, in_order, outcome, refuse, accept, write}
 use Rattle.pages.specs.Pages.{parts_of, slots_of, name_in, names_of, pieces, keeps_layout, rises, is_log}
-use Rattle.answers.specs.declared.Answer.{Answer}
-use Rattle.answers.specs.declared.Answer.TheVariants.{Accepted, Refused}
+use Rattle.answers.specs.Answers.{Answer}
+use Rattle.std.specs.declared.result.Result.TheVariants.{Ok, Err}
 use Rattle.answers.specs.declared.Refusal.{Refusal}
 use Rattle.pages.proofs.WrittenOctets.{written_octets}
 use Rattle.answers.proofs.Outcomes.{write_accepted}
@@ -54,7 +54,7 @@ early x = within 1 4 (number_of x)
 -- no test of the list answers x
 abbrev NoneAnswers : Answer → List Test → Type 0
 NoneAnswers x [] = Unit
-NoneAnswers x (t ∷ tests) = (Refused t.refusal ≡ x → ⊥) × NoneAnswers x tests
+NoneAnswers x (t ∷ tests) = (Err t.refusal ≡ x → ⊥) × NoneAnswers x tests
 
 -- such an answer is that of what comes after the tests, which have all passed
 after_tests : (next : Outcome) (x : Answer) (tests : List Test) → NoneAnswers x tests → (in_order tests refuse next).answer ≡ x → AllPass tests × (next.answer ≡ x)
@@ -79,7 +79,7 @@ module _ (page log : Bytes) (author : Author) where
       let p = after_tests next x (opening_tests page log author) (late refl, (late refl, (late refl, (late refl, tt)))) e in
       (all_asked p.0, p.1)
     where
-      late : {r : Refusal} → early (Refused r) ≡ true → Refused r ≡ x → ⊥
+      late : {r : Refusal} → early (Err r) ≡ true → Err r ≡ x → ⊥
       late q p = yes_no q (ap early p ∙ h)
 
   pub past : Asked page log author → (next : Outcome) → in_order (opening_tests page log author) refuse next ≡ next
@@ -92,7 +92,7 @@ module _ (page log : Bytes) (author : Author) where
   take_back_by v room = past v _
 
 -- past all tests, what is written
-written : (tests : List Test) (l : List Bytes) (room n : ℕ) → (outcome tests l room).answer ≡ Accepted n → AllPass tests × (outcome tests l room ≡ accept l)
+written : (tests : List Test) (l : List Bytes) (room n : ℕ) → (outcome tests l room).answer ≡ Ok n → AllPass tests × (outcome tests l room ≡ accept l)
 written tests l room n e =
     let a = accepted_passes (write l room) n tests e in
     (a.0, a.1 ∙ write_accepted l room n (sym (ap (λ (o : Outcome). o.answer) a.1) ∙ e))
@@ -104,7 +104,7 @@ pub record Renames (page log : Bytes) (author : Author) (room : ℕ) : Type 0 wh
   pub all_fit_lem : all_fit (rename author (names_of log)) page ≡ true
   pub outcome : rename_outcome page log author room ≡ accept (pieces (carried (rename author (names_of log)) (slots_of page)))
 
-pub renames : (page log : Bytes) (author : Author) (room n : ℕ) → (rename_outcome page log author room).answer ≡ Accepted n → Renames page log author room
+pub renames : (page log : Bytes) (author : Author) (room n : ℕ) → (rename_outcome page log author room).answer ≡ Ok n → Renames page log author room
 unfolding rename_outcome
 renames page log author room n e =
     go (written (opening_tests page log author ++ rename_tests page log author) renamed room n e)
@@ -127,7 +127,7 @@ pub record TakesBack (page log : Bytes) (author : Author) (room : ℕ) : Type 0 
   pub rises_back : rising (map (take_back author (names_of log)) (names_of page)) ≡ true
   pub outcome : take_back_outcome page log author room ≡ accept (pieces (carried (take_back author (names_of log)) (slots_of page)))
 
-pub takes_back : (page log : Bytes) (author : Author) (room n : ℕ) → (take_back_outcome page log author room).answer ≡ Accepted n → TakesBack page log author room
+pub takes_back : (page log : Bytes) (author : Author) (room n : ℕ) → (take_back_outcome page log author room).answer ≡ Ok n → TakesBack page log author room
 unfolding take_back_outcome
 takes_back page log author room n e =
     go (written (opening_tests page log author ++ take_back_tests page log author) old room n e)
@@ -154,8 +154,8 @@ rename_valid_log author (r ∷ rest) a h b (cons l ls) vs = rename_valid_all aut
 module _ (page log : Bytes) (author : Author) where
   pub page_fresh : are_fresh author page log ≡ true → All (Fresh author) (names_of page)
   page_fresh e =
-      let in-page = every (fresh author) (names_of page) in
-      let in_log = every (fresh author) (names_of log) in
+      let in-page = list_all (fresh author) (names_of page) in
+      let in_log = list_all (fresh author) (names_of log) in
       all_every (fresh author) (fresh_Fresh author) (names_of page) (and_0 in-page in_log e)
 
   module _ (node_max : author.node ≤ 65535) (sequence_max : author.sequence ≤ 4294967295) where
@@ -174,14 +174,14 @@ module _ (page log : Bytes) (author : Author) where
         take_back_valid_all author (names_of log) (allowed v) (omega (arith, w.few)) (page_valid log w.layout) (page_valid page v.layout)
 
     module _ (po : Octets page) (room n : ℕ) where
-      pub renamed_slots : (rename_outcome page log author room).answer ≡ Accepted n →
+      pub renamed_slots : (rename_outcome page log author room).answer ≡ Ok n →
           slots_of (rename_outcome page log author room).bytes ≡ carried (rename author (names_of log)) (slots_of page)
       renamed_slots e =
           let i = renames page log author room n e in
           ap (λ (o : Outcome). slots_of o.bytes) i.outcome
           ∙ carried_slots (rename author (names_of log)) page po i.asked.layout (renamed_valid i.asked) i.all_fit_lem
 
-      pub rename_page : (rename_outcome page log author room).answer ≡ Accepted n →
+      pub rename_page : (rename_outcome page log author room).answer ≡ Ok n →
           (keeps_layout (rename_outcome page log author room).bytes ≡ true) × (rises (rename_outcome page log author room).bytes ≡ true)
       rename_page e =
           let i = renames page log author room n e in
@@ -191,7 +191,7 @@ module _ (page log : Bytes) (author : Author) where
           rw i.outcome p
 
       -- its output is bytes, as the page was
-      pub rename_octets : (rename_outcome page log author room).answer ≡ Accepted n →
+      pub rename_octets : (rename_outcome page log author room).answer ≡ Ok n →
           Octets (rename_outcome page log author room).bytes
       rename_octets e =
           let i = renames page log author room n e in
@@ -199,7 +199,7 @@ module _ (page log : Bytes) (author : Author) where
           let good = carried_good f page po i.asked.layout (renamed_valid i.asked) i.all_fit_lem in
           rw i.outcome (written_octets (carried f (slots_of page)) good)
 
-      pub back_slots : (take_back_outcome page log author room).answer ≡ Accepted n →
+      pub back_slots : (take_back_outcome page log author room).answer ≡ Ok n →
           slots_of (take_back_outcome page log author room).bytes ≡ carried (take_back author (names_of log)) (slots_of page)
       back_slots e =
           let i = takes_back page log author room n e in
@@ -207,14 +207,14 @@ module _ (page log : Bytes) (author : Author) where
           ∙ carried_slots (take_back author (names_of log)) page po i.asked.layout (back_valid i.asked) i.all_fit_lem
 
       -- the same, as bytes
-      pub back_parts : (take_back_outcome page log author room).answer ≡ Accepted n →
+      pub back_parts : (take_back_outcome page log author room).answer ≡ Ok n →
           parts_of (take_back_outcome page log author room).bytes ≡ pieces (carried (take_back author (names_of log)) (slots_of page))
       back_parts e =
           let i = takes_back page log author room n e in
           ap (λ (o : Outcome). parts_of o.bytes) i.outcome
           ∙ carried_parts (take_back author (names_of log)) page po i.asked.layout (back_valid i.asked) i.all_fit_lem
 
-      pub back_page : (take_back_outcome page log author room).answer ≡ Accepted n →
+      pub back_page : (take_back_outcome page log author room).answer ≡ Ok n →
           (keeps_layout (take_back_outcome page log author room).bytes ≡ true) × (rises (take_back_outcome page log author room).bytes ≡ true)
       back_page e =
           let i = takes_back page log author room n e in
@@ -226,8 +226,8 @@ module _ (page log : Bytes) (author : Author) where
       -- ── a rename taken back ──
 
       -- "byte for byte", markers or not, where the output has room for the page
-      pub rename_back : (room' : ℕ) → length page ≤ room' → (rename_outcome page log author room).answer ≡ Accepted n →
-          take_back_outcome (rename_outcome page log author room).bytes log author room' ≡ record { answer = Accepted (length (slots_of page)); bytes = page }
+      pub rename_back : (room' : ℕ) → length page ≤ room' → (rename_outcome page log author room).answer ≡ Ok n →
+          take_back_outcome (rename_outcome page log author room).bytes log author room' ≡ record { answer = Ok (length (slots_of page)); bytes = page }
       unfolding take_back_outcome
       rename_back room' h e =
           let i = renames page log author room n e in

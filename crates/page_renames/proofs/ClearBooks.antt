@@ -13,7 +13,7 @@ use Rattle.names.specs.Names.{limit, fits}
 use Rattle.names.proofs.Laws.{rising_Rising, Rising_rising}
 use Rattle.names.proofs.Validity.{Valid}
 use Rattle.numbers.specs.Bytes.{Bytes}
-use Rattle.numbers.specs.Lists.{every}
+use Rattle.std.specs.List.{list_all}
 use Rattle.numbers.proofs.Bools.{and_0, and_1}
 use Rattle.numbers.proofs.Every.{every_map}
 use Rattle.pages.specs.Pages.{names_of}
@@ -35,9 +35,9 @@ use Rattle.page_renames.proofs.Carried.{page_valid}
 abbrev Passes : (Row → Bool) → Row → Type 0
 Passes f c = Valid c × (f c ≡ true)
 
-all_pass : (f : Row → Bool) (l : List Row) → All Valid l → every f l ≡ true → All (Passes f) l
+all_pass : (f : Row → Bool) (l : List Row) → All Valid l → list_all f l ≡ true → All (Passes f) l
 all_pass f [] vs e = nil
-all_pass f (c ∷ l) (cons v vs) e = cons (v, and_0 (f c) (every f l) e) (all_pass f l vs (and_1 (f c) (every f l) e))
+all_pass f (c ∷ l) (cons v vs) e = cons (v, and_0 (f c) (list_all f l) e) (all_pass f l vs (and_1 (f c) (list_all f l) e))
 
 module _ (page log : Bytes) (author : Author) (v : Asked page log author) where
   abbrev back : Row → Row
@@ -46,7 +46,7 @@ module _ (page log : Bytes) (author : Author) (v : Asked page log author) where
   abbrev short : Bool
   short = leb (deepest_of (names_of log) + 1 + deepest_of (names_of page)) limit
 
-  each_fits : (l : List Row) → deepest_of (names_of log) + 1 + deepest_of l ≤ limit → every (λ (c : Row). fits (back c)) l ≡ true
+  each_fits : (l : List Row) → deepest_of (names_of log) + 1 + deepest_of l ≤ limit → list_all (λ (c : Row). fits (back c)) l ≡ true
   each_fits [] h = refl
   each_fits (c ∷ l) h =
       let f = back_fits_by author (names_of log) c (omega arith) in
@@ -60,10 +60,10 @@ module _ (page log : Bytes) (author : Author) (v : Asked page log author) where
   clear = clear_from author (names_of log) from
 
   abbrev log_free : Bool
-  log_free = every (unmarked_from from) (names_of log)
+  log_free = list_all (unmarked_from from) (names_of log)
 
   abbrev page_clear : Bool
-  page_clear = every clear (names_of page)
+  page_clear = list_all clear (names_of page)
 
   module _ (e : log_free && page_clear && short ≡ true) where
     free : log_free && page_clear ≡ true

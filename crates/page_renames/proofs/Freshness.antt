@@ -9,7 +9,7 @@ use Rattle.names.specs.declared.Author.{Author}
 use Rattle.names.specs.declared.Tuple.{Tuple}
 use Rattle.name_renames.specs.Renaming.{fresh}
 use Rattle.numbers.specs.Bytes.{Bytes}
-use Rattle.numbers.specs.Lists.{every}
+use Rattle.std.specs.List.{list_all}
 use Rattle.slots.specs.Tuples.{tuple_at}
 use Rattle.slots.specs.Slots.{head_size, depth_of, name_of, slot_of, keeps_slot}
 use Rattle.slots.proofs.RoundTrip.{kept}
@@ -35,5 +35,5 @@ module _ (author : Author) where
     same_node h = sym (ap (λ (b : Bool). not (b && eqb t.sequence author.sequence)) (eq-eqb t.node author.node h)) ∙ first
 
   -- of every slot
-  pub by_slots : (page : Bytes) → every (λ (s : Bytes). fresh author (name_of s)) (parts_of page) ≡ every (fresh author) (names_of page)
+  pub by_slots : (page : Bytes) → list_all (λ (s : Bytes). fresh author (name_of s)) (parts_of page) ≡ list_all (fresh author) (names_of page)
   by_slots page = sym (every_map (fresh author) name_in (slots_of page) ∙ every_map (λ x. fresh author (name_in x)) slot_of (parts_of page))

@@ -13,12 +13,12 @@ use Rattle.names.specs.Names.{limit, fits}
 use Rattle.numbers.proofs.Bools.{and_0, and_1}
 use Rattle.name_renames.specs.Renaming.{rename, take_back}
 use Rattle.numbers.specs.Bytes.{Bytes}
-use Rattle.numbers.specs.Lists.{every}
+use Rattle.std.specs.List.{list_all}
 use Rattle.slots.specs.Slots.{Slot, slot_size, slot_bytes}
 use Rattle.slots.proofs.RoundTrip.{slot_length}
 use Rattle.answers.specs.Answers.{Outcome, Test, in_order, refuse, write}
 use Rattle.pages.specs.Pages.{slots_of, name_in, names_of, pieces}
-use Rattle.answers.specs.declared.Answer.TheVariants.{Accepted}
+use Rattle.std.specs.declared.result.Result.TheVariants.{Ok}
 use Rattle.answers.specs.declared.Refusal.{Refusal}
 use Rattle.answers.specs.declared.Refusal.TheVariants.{Short}
 use Rattle.answers.proofs.Outcomes.{writes_short, writes}
@@ -27,18 +27,18 @@ use Rattle.answers.specs.Laws.{Passed as AllPass}
 use Rattle.answers.proofs.Refusals.{passed, failed}
 use Rattle.pages.proofs.RoundTrip.{laid}
 use Rattle.numbers.proofs.Lists.{flat, flat_none}
-use Rattle.page_renames.specs.declared.Checked.{Checked}
-use Rattle.page_renames.specs.declared.Checked.TheVariants.{Refused, Passed}
+use Rattle.std.specs.declared.result.Result.{Result}
+use Rattle.std.specs.declared.result.Result.TheVariants.{Ok, Err}
 use Rattle.page_renames.specs.Renames.{carry, carried, all_fit, opening_tests, rename_tests, take_back_tests}
 use Rattle.page_renames.proofs.Books.{past}
 use Rattle.page_renames.proofs.FirstRefusal.{asked, all_pass, first_fails}
 
 -- results that fit fill a slot each
-bytes_long : (f : Row → Row) (l : List Slot) → every fits (map f (map name_in l)) ≡ true → length (flatten (pieces (carried f l))) ≡ slot_size * length l
+bytes_long : (f : Row → Row) (l : List Slot) → list_all fits (map f (map name_in l)) ≡ true → length (flatten (pieces (carried f l))) ≡ slot_size * length l
 bytes_long f [] t = ap length flat_none
 bytes_long f (x ∷ l) t =
     let this = fits (f x.name) in
-    let others = every fits (map f (map name_in l)) in
+    let others = list_all fits (map f (map name_in l)) in
     let bytes = slot_bytes (carry f x) in
     let rest = flatten (pieces (carried f l)) in
     let a = slot_length (carry f x) (leb-true (length (f x.name)) limit (and_0 this others t)) in
@@ -55,11 +55,11 @@ module _ (page log : Bytes) (author : Author) (own : List Test) (f : Row → Row
   told = in_order (opening_tests page log author) refuse (in_order own refuse (write slots room))
 
   -- the first check has passed, and x is what the second has answered
-  module _ (e : in_order (opening_tests page log author) Refused Passed ≡ Passed) {x : Checked} (o : x ≡ in_order own Refused Passed) where
-    pub own_refused : (r : Refusal) → x ≡ Refused r → told ≡ refuse r
+  module _ (e : in_order (opening_tests page log author) Err (Ok tt) ≡ (Ok tt)) {x : (Result Unit Refusal)} (o : x ≡ in_order own Err (Ok tt)) where
+    pub own_refused : (r : Refusal) → x ≡ Err r → told ≡ refuse r
     own_refused r i = past page log author (asked page log author e) _ ∙ failed refuse (write slots room) own (first_fails own o i)
 
-    module _ (i : x ≡ Passed) where
+    module _ (i : x ≡ (Ok tt)) where
       pub all_fit_lem : all_fit f page ≡ true
       all_fit_lem = fit (all_pass own o i)
 
@@ -72,7 +72,7 @@ module _ (page log : Bytes) (author : Author) (own : List Test) (f : Row → Row
       pub short : room < length page → told ≡ refuse Short
       short h = on ∙ writes_short slots room (omega (arith, as_long))
 
-      pub done : length page ≤ room → told ≡ record { answer = Accepted (length page / slot_size); bytes = flatten slots }
+      pub done : length page ≤ room → told ≡ record { answer = Ok (length page / slot_size); bytes = flatten slots }
       done h =
           let n = length-map (carried f (slots_of page)) slot_bytes ∙ length-map (slots_of page) (carry f) ∙ length_slots page in
           on ∙ writes slots room (length page / slot_size) (flatten slots) n refl (omega (arith, as_long))

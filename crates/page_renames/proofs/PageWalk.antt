@@ -9,10 +9,11 @@ use borrow.Author.Tests.{le-ltb}
 use lib.Dec.{ltb}
 use lib.ListN.{length, get_or, drop, length-map, drop_of_length-le, get_or-map}
 use lib.Seq.{drop-cons}
-use Rattle.names.specs.Ordering.{Row, compare_rows, is_less, rising}
+use Rattle.names.specs.Ordering.{Row, compare_rows, rising}
+use Rattle.std.specs.Ordering.{is_lt}
 use Rattle.names.proofs.Laws.{rising_Rising}
 use Rattle.numbers.specs.Bytes.{Bytes}
-use Rattle.numbers.specs.Lists.{every}
+use Rattle.std.specs.List.{list_all}
 use Rattle.names.specs.Names.{limit}
 use Rattle.slots.specs.Slots.{slot_size, name_of, keeps_slot}
 use Rattle.numbers.proofs.Every.{every_at, every_end}
@@ -37,7 +38,7 @@ module _ (page : Bytes) (i : ℕ) (h : i < length page / slot_size) where
 
   -- the test t of what f makes of name i, and what is left after it
   pub result_at : (f : Row → Row) (t : Row → Bool) {b : Bool} → b ≡ t (f (get_or (names_of page) i [])) →
-      b && every t (drop (i + 1) (map f (names_of page))) ≡ every t (drop i (map f (names_of page)))
+      b && list_all t (drop (i + 1) (map f (names_of page))) ≡ list_all t (drop i (map f (names_of page)))
   result_at f t e =
       let l : i < length (map f (names_of page)) = omega (arith, length-map (names_of page) f, within_names) in
       every_at t (map f (names_of page)) i (f []) l (e ∙ ap t (sym (get_or-map f (names_of page) i [])))
@@ -52,7 +53,7 @@ module _ (page : Bytes) (i : ℕ) (h : i < length page / slot_size) where
       omega arith
 
 -- no name is left
-pub results_end : (page : Bytes) (i : ℕ) (f : Row → Row) (t : Row → Bool) → length page / slot_size ≤ i → true ≡ every t (drop i (map f (names_of page)))
+pub results_end : (page : Bytes) (i : ℕ) (f : Row → Row) (t : Row → Bool) → length page / slot_size ≤ i → true ≡ list_all t (drop i (map f (names_of page)))
 results_end page i f t h = every_end t (map f (names_of page)) i (omega (arith, length-map (names_of page) f, length_names page (length page / slot_size)))
 
 -- ── results that rise ──
@@ -80,7 +81,7 @@ module _ (page : Bytes) (f : Row → Row) where
 
   -- of results before i it is known that they rise; b says it of the one at i too, where it is not the first
   pub rising_turn : (i : ℕ) → i < length page / slot_size → (went b : Bool) →
-      b ≡ went && (ltb i 1 || is_less (compare_rows (f (get_or (names_of page) (i - 1) [])) (f (get_or (names_of page) i [])))) →
+      b ≡ went && (ltb i 1 || is_lt (compare_rows (f (get_or (names_of page) (i - 1) [])) (f (get_or (names_of page) i [])))) →
       b && rising (drop (i + 1 - 1) results) ≡ went && rising (drop (i - 1) results)
   rising_turn zero h went b e = ap (λ (t : Bool). t && rising results) (e ∙ and-true went)
   rising_turn (suc k) h went b e =
@@ -91,9 +92,9 @@ module _ (page : Bytes) (f : Row → Row) where
       let r : suc k + 1 - 1 ≡ suc k = omega arith in
       let s = from k (omega arith) ∙ ap (λ (n : ℕ). x ∷ drop n results) (add-one k) ∙ ap (λ (l : List Row). x ∷ l) (from (suc k) h) in
       (λ i. e i && rising (drop (r i) results))
-      ∙ (λ i. (went && (le-ltb (suc k) 1 (omega arith) i || is_less (compare_rows (f (get_or (names_of page) (q i) [])) y))) && rising (drop (suc k) results))
-      ∙ ap (λ (l : List Row). (went && is_less (compare_rows x y)) && rising l) (from (suc k) h)
-      ∙ and_assoc went (is_less (compare_rows x y)) (rising (y ∷ rest))
+      ∙ (λ i. (went && (le-ltb (suc k) 1 (omega arith) i || is_lt (compare_rows (f (get_or (names_of page) (q i) [])) y))) && rising (drop (suc k) results))
+      ∙ ap (λ (l : List Row). (went && is_lt (compare_rows x y)) && rising l) (from (suc k) h)
+      ∙ and_assoc went (is_lt (compare_rows x y)) (rising (y ∷ rest))
       ∙ ap (λ (t : Bool). went && t) (sym (rising_cons x y rest))
       ∙ (λ i. went && rising (sym (ap (λ (n : ℕ). drop n results) q ∙ s) i))
 

@@ -6,7 +6,7 @@ use Rattle.names.specs.Ordering.{Row, rising}
 use Rattle.names.specs.Names.{fits}
 use Rattle.name_renames.specs.Renaming.{rename, fresh, take_back}
 use Rattle.numbers.specs.Bytes.{Bytes}
-use Rattle.numbers.specs.Lists.{every}
+use Rattle.std.specs.List.{list_all}
 use Rattle.slots.specs.Slots.{Slot}
 use Rattle.answers.specs.Answers.{Outcome, Test, ◌else◌, outcome}
 use Rattle.pages.specs.Pages.{slots_of, names_of, pieces, keeps_layout, rises, is_log}
@@ -22,11 +22,11 @@ carried f l = map (carry f) l
 
 -- "Fresh means: no name in page or log has (A, s) as node and sequence of its first tuple."
 abbrev pub are_fresh : Author → Bytes → Bytes → Bool
-are_fresh author page log = every (fresh author) (names_of page) && every (fresh author) (names_of log)
+are_fresh author page log = list_all (fresh author) (names_of page) && list_all (fresh author) (names_of log)
 
 -- no "result needs more than eight tuples" (02, P8: sixteen)
 abbrev pub all_fit : (Row → Row) → Bytes → Bool
-all_fit f page = every fits (map f (names_of page))
+all_fit f page = list_all fits (map f (names_of page))
 
 -- ── "Order" ──
 

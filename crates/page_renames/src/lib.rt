@@ -5,9 +5,10 @@
 
 ghost use Rattle.std.specs.Prelude.{◌≡◌, true, false, ◌&&◌, ◌||◌, ◌+◌, ◌-◌, ◌*◌, ◌/◌, ◌≤◌, ◌<◌, leb, ltb, length, get_or};
 ghost use mathlib.Core.List.{[], flatten};
-ghost use Rattle.names.specs.Ordering.{compare_rows, is_less};
+ghost use Rattle.names.specs.Ordering.{compare_rows};
+ghost use Rattle.std.specs.Ordering.{is_lt};
 ghost use Rattle.names.specs.Names.{limit, fits};
-ghost use Rattle.numbers.specs.Lists.{every};
+ghost use Rattle.std.specs.List.{list_all};
 ghost use Rattle.numbers.specs.Bytes.{put};
 ghost use Rattle.slots.specs.Slots.{slot_size, name_of, slot_of, slot_bytes, keeps_slot};
 ghost use Rattle.pages.specs.Pages.{keeps_layout, parts_of, slots_of, names_of, pieces, rises, is_log};
@@ -41,7 +42,7 @@ fn is_fresh(slot: &[u8], author: Author) -> bool
 // "no name .. has (A, s) as node and sequence of its first tuple", of a page or of a log.
 fn all_fresh(page: &[u8], author: Author) -> bool
     requires { keeps_layout page.now ≡ true }
-    ensures { result ≡ every (fresh author) (names_of page.now) }
+    ensures { result ≡ list_all (fresh author) (names_of page.now) }
 {
     let n = page.len() / SLOT;
     let mut k: usize = 0;
@@ -135,7 +136,7 @@ fn write_one_back(page: &[u8], log: &[u8], author: Author, alone: bool, i: usize
 fn write_back(page: &[u8], log: &[u8], author: Author, alone: bool, out: &mut [u8])
     requires page_value { (keeps_layout page.now ≡ true) × (is_log log.now ≡ true) × (length page.now ≤ length out.old) }
     requires page_value_2 { all_fit (take_back_row author (names_of log.now)) page.now ≡ true }
-    requires page_value_3 { alone ≡ true → every (is_alone author (names_of log.now)) (names_of page.now) ≡ true }
+    requires page_value_3 { alone ≡ true → list_all (is_alone author (names_of log.now)) (names_of page.now) ≡ true }
     ensures { out.new ≡ put out.old 0 (flatten (pieces (carried (take_back_row author (names_of log.now)) (slots_of page.now)))) }
 {
     let n = page.len() / SLOT;
@@ -157,43 +158,43 @@ enum Checked {
 
 // 1, 2, 3, 4.
 fn check(page: &[u8], log: &[u8], author: Author) -> Checked
-    ensures { result ≡ in_order (opening_tests page.now log.now author) Checked.Refused Checked.Passed }
+    ensures { result ≡ in_order (opening_tests page.now log.now author) Err (Ok tt) }
 {
     match pages::look(page) {
-        Seen::Broken => return Checked::Refused(Refusal::BadLayout),
-        Seen::NotRising => return Checked::Refused(Refusal::NotRising),
+        Seen::Broken => return Err(Refusal::BadLayout),
+        Seen::NotRising => return Err(Refusal::NotRising),
         Seen::Rising => {}
     }
     if !pages::log_ok(log) {
-        return Checked::Refused(Refusal::BadLog);
+        return Err(Refusal::BadLog);
     }
     if author.node < 1 {
-        return Checked::Refused(Refusal::NoAuthor);
+        return Err(Refusal::NoAuthor);
     }
-    Checked::Passed
+    Ok(())
 }
 
 // 5, 6.
 fn check_rename(page: &[u8], log: &[u8], author: Author) -> Checked
-    requires { in_order (opening_tests page.now log.now author) Checked.Refused Checked.Passed ≡ Checked.Passed }
-    ensures { result ≡ in_order (rename_tests page.now log.now author) Checked.Refused Checked.Passed }
+    requires { in_order (opening_tests page.now log.now author) Err (Ok tt) ≡ Ok tt }
+    ensures { result ≡ in_order (rename_tests page.now log.now author) Err (Ok tt) }
 {
     if !all_fresh(page, author) {
-        return Checked::Refused(Refusal::NotFresh);
+        return Err(Refusal::NotFresh);
     }
     if !all_fresh(log, author) {
-        return Checked::Refused(Refusal::NotFresh);
+        return Err(Refusal::NotFresh);
     }
     if !all_renamed_fit(page, log, author) {
-        return Checked::Refused(Refusal::TooDeep);
+        return Err(Refusal::TooDeep);
     }
-    Checked::Passed
+    Ok(())
 }
 
 // Slot i is taken back to a name above that of the slot before it.
 fn pair_rises(page: &[u8], log: &[u8], author: Author, i: usize) -> bool
     requires { (keeps_layout page.now ≡ true) × (is_log log.now ≡ true) × (1 ≤ i) × (i < length (names_of page.now)) }
-    ensures { result ≡ is_less (compare_rows (take_back_row author (names_of log.now) (get_or (names_of page.now) (i - 1) [])) (take_back_row author (names_of log.now) (get_or (names_of page.now) i []))) }
+    ensures { result ≡ is_lt (compare_rows (take_back_row author (names_of log.now) (get_or (names_of page.now) (i - 1) [])) (take_back_row author (names_of log.now) (get_or (names_of page.now) i []))) }
 {
     let before = SLOT * (i - 1);
     let at = before + SLOT;
@@ -216,8 +217,8 @@ fn still_rises(
 ) -> bool
     requires page_value { (keeps_layout page.now ≡ true) × (is_log log.now ≡ true) × (i < length (names_of page.now)) }
     requires stem_lies { (1 ≤ i → StemLies page.now log.now last) × StemLies page.now log.now here }
-    requires i_value { 1 ≤ i → may_meet last.behind here.ahead (row_of_stem page.now log.now last) (row_of_stem page.now log.now here) ≡ false → is_less (compare_rows (take_back_row author (names_of log.now) (get_or (names_of page.now) (i - 1) [])) (take_back_row author (names_of log.now) (get_or (names_of page.now) i []))) ≡ true }
-    ensures { result ≡ (rises && (ltb i 1 || is_less (compare_rows (take_back_row author (names_of log.now) (get_or (names_of page.now) (i - 1) [])) (take_back_row author (names_of log.now) (get_or (names_of page.now) i []))))) }
+    requires i_value { 1 ≤ i → may_meet last.behind here.ahead (row_of_stem page.now log.now last) (row_of_stem page.now log.now here) ≡ false → is_lt (compare_rows (take_back_row author (names_of log.now) (get_or (names_of page.now) (i - 1) [])) (take_back_row author (names_of log.now) (get_or (names_of page.now) i []))) ≡ true }
+    ensures { result ≡ (rises && (ltb i 1 || is_lt (compare_rows (take_back_row author (names_of log.now) (get_or (names_of page.now) (i - 1) [])) (take_back_row author (names_of log.now) (get_or (names_of page.now) i []))))) }
 {
     if !rises {
         return false;
@@ -233,18 +234,18 @@ fn still_rises(
 
 // 7, where the results do not rise.
 fn check_rising(rises: bool) -> Checked
-    ensures { result ≡ ask rises (Checked.Refused Refusal.NotRisingBack) Checked.Passed }
+    ensures { result ≡ ask rises (Checked.Err Refusal.NotRisingBack) Checked.Passed }
 {
     if !rises {
-        return Checked::Refused(Refusal::NotRisingBack);
+        return Err(Refusal::NotRisingBack);
     }
-    Checked::Passed
+    Ok(())
 }
 
 // 6, 7 of any page: one walk along it, which keeps the stem of the name before.
 fn check_back(page: &[u8], log: &[u8], author: Author) -> Checked
-    requires { in_order (opening_tests page.now log.now author) Checked.Refused Checked.Passed ≡ Checked.Passed }
-    ensures { result ≡ in_order (take_back_tests page.now log.now author) Checked.Refused Checked.Passed }
+    requires { in_order (opening_tests page.now log.now author) Err (Ok tt) ≡ Ok tt }
+    ensures { result ≡ in_order (take_back_tests page.now log.now author) Err (Ok tt) }
 {
     let n = page.len() / SLOT;
     let mut last = Stem {
@@ -264,7 +265,7 @@ fn check_back(page: &[u8], log: &[u8], author: Author) -> Checked
         let back = one_name::back_of(log, author, page, c);
         let here = one_name::stem_of(log, page, c, back);
         if LIMIT < here.depth {
-            break Checked::Refused(Refusal::TooDeep);
+            break Err(Refusal::TooDeep);
         }
         rises = still_rises(page, log, author, rises, i, last, here);
         last = here;
@@ -275,7 +276,7 @@ fn check_back(page: &[u8], log: &[u8], author: Author) -> Checked
 // Every name of the page is taken back alone: to a name of the log, or to tuples of its own.
 fn all_alone(page: &[u8], log: &[u8], author: Author) -> bool
     requires { is_log log.now ≡ true }
-    ensures { result ≡ every (is_alone author (names_of log.now)) (names_of page.now) }
+    ensures { result ≡ list_all (is_alone author (names_of log.now)) (names_of page.now) }
 {
     let n = page.len() / SLOT;
     let mut i: usize = 0;
@@ -294,7 +295,7 @@ fn all_alone(page: &[u8], log: &[u8], author: Author) -> bool
 // so that no two names could meet; and none is so deep that it could come to have more than LIMIT tuples.
 fn is_clear(page: &[u8], log: &[u8], author: Author) -> bool
     requires { (keeps_layout page.now ≡ true) × (is_log log.now ≡ true) }
-    ensures { result ≡ (every (unmarked_from (shallowest_of (names_of log.now))) (names_of log.now) && every (clear_from author (names_of log.now) (shallowest_of (names_of log.now))) (names_of page.now) && leb (deepest_of (names_of log.now) + 1 + deepest_of (names_of page.now)) limit) }
+    ensures { result ≡ (list_all (unmarked_from (shallowest_of (names_of log.now))) (names_of log.now) && list_all (clear_from author (names_of log.now) (shallowest_of (names_of log.now))) (names_of page.now) && leb (deepest_of (names_of log.now) + 1 + deepest_of (names_of page.now)) limit) }
 {
     let from = one_name::shallowest(log);
     if !one_name::all_unmarked(log, from) {
@@ -310,56 +311,56 @@ fn is_clear(page: &[u8], log: &[u8], author: Author) -> bool
 // or not: `alone_fits` and `alone_mono` (name_renames/proofs/Alone.antt; in specs/Laws.antt `alone_is` and `alone_kept`). If page and log are clear, so
 // it is by `back_depth` (name_renames/proofs/BackDepth.antt) and `clear_kept` (one_name/proofs/Neighbours.antt; in specs/Laws.antt `clear_kept`).
 fn check_names(page: &[u8], log: &[u8], author: Author, alone: bool) -> Checked
-    requires author_value { in_order (opening_tests page.now log.now author) Checked.Refused Checked.Passed ≡ Checked.Passed }
-    requires page_value { alone ≡ true → every (is_alone author (names_of log.now)) (names_of page.now) ≡ true }
-    ensures { result ≡ in_order (take_back_tests page.now log.now author) Checked.Refused Checked.Passed }
+    requires author_value { in_order (opening_tests page.now log.now author) Err (Ok tt) ≡ Ok tt }
+    requires page_value { alone ≡ true → list_all (is_alone author (names_of log.now)) (names_of page.now) ≡ true }
+    ensures { result ≡ in_order (take_back_tests page.now log.now author) Err (Ok tt) }
 {
     if alone {
-        return Checked::Passed;
+        return Ok(());
     }
     if is_clear(page, log, author) {
-        return Checked::Passed;
+        return Ok(());
     }
     check_back(page, log, author)
 }
 
 // 5, 6, 8; else the page renamed. Nothing is written before every refusal is ruled out.
 fn rename_checked(page: &[u8], log: &[u8], author: Author, out: &mut [u8]) -> Answer
-    requires { in_order (opening_tests page.now log.now author) Checked.Refused Checked.Passed ≡ Checked.Passed }
+    requires { in_order (opening_tests page.now log.now author) Err (Ok tt) ≡ Ok tt }
     ensures value { result ≡ (rename_outcome page.now log.now author (length out.old)).answer }
     ensures out_after { out.new ≡ leaves (rename_outcome page.now log.now author (length out.old)) out.old }
 {
     let checked = check_rename(page, log, author);
     match checked {
-        Checked::Refused(r) => Answer::Refused(r),
-        Checked::Passed => {
+        Err(r) => Err(r),
+        Ok(()) => {
             if out.len() < page.len() {
-                return Answer::Refused(Refusal::Short);
+                return Err(Refusal::Short);
             }
             write_renamed(page, log, author, out);
             let renamed = page.len() / SLOT;
-            Answer::Accepted(renamed)
+            Ok(renamed)
         }
     }
 }
 
 // 6, 7, 8; else the page taken back. Nothing is written before every refusal is ruled out.
 fn take_back_checked(page: &[u8], log: &[u8], author: Author, out: &mut [u8]) -> Answer
-    requires { in_order (opening_tests page.now log.now author) Checked.Refused Checked.Passed ≡ Checked.Passed }
+    requires { in_order (opening_tests page.now log.now author) Err (Ok tt) ≡ Ok tt }
     ensures value { result ≡ (take_back_outcome page.now log.now author (length out.old)).answer }
     ensures out_after { out.new ≡ leaves (take_back_outcome page.now log.now author (length out.old)) out.old }
 {
     let alone = all_alone(page, log, author);
     let checked = check_names(page, log, author, alone);
     match checked {
-        Checked::Refused(r) => Answer::Refused(r),
-        Checked::Passed => {
+        Err(r) => Err(r),
+        Ok(()) => {
             if out.len() < page.len() {
-                return Answer::Refused(Refusal::Short);
+                return Err(Refusal::Short);
             }
             write_back(page, log, author, alone, out);
             let taken_back = page.len() / SLOT;
-            Answer::Accepted(taken_back)
+            Ok(taken_back)
         }
     }
 }
@@ -371,8 +372,8 @@ pub fn rename(page: &[u8], log: &[u8], author: Author, out: &mut [u8]) -> Answer
 {
     let checked = check(page, log, author);
     match checked {
-        Checked::Refused(r) => Answer::Refused(r),
-        Checked::Passed => rename_checked(page, log, author, out),
+        Err(r) => Err(r),
+        Ok(()) => rename_checked(page, log, author, out),
     }
 }
 
@@ -383,7 +384,7 @@ pub fn take_back(page: &[u8], log: &[u8], author: Author, out: &mut [u8]) -> Ans
 {
     let checked = check(page, log, author);
     match checked {
-        Checked::Refused(r) => Answer::Refused(r),
-        Checked::Passed => take_back_checked(page, log, author, out),
+        Err(r) => Err(r),
+        Ok(()) => take_back_checked(page, log, author, out),
     }
 }

@@ -7,8 +7,9 @@ use native.Mathlib.Decide.{dec_lt}
 use native.Mathlib.Nat.{not-suc-le-zero, le_of_suc-le-suc}
 use native.Mathlib.Omega.{arith}
 use lib.ListN.{length, get_or}
-use Rattle.names.specs.declared.Order.{Order}
-use Rattle.names.specs.Ordering.{Row, compare_rows, is_less, is_same, ◌<ⁿ◌, Rising}
+use Rattle.std.specs.declared.cmp.Ordering.{Ordering}
+use Rattle.names.specs.Ordering.{Row, compare_rows, ◌<ⁿ◌, Rising}
+use Rattle.std.specs.Ordering.{is_lt, is_eq}
 use Rattle.names.proofs.Laws.{head_below, tail_rising, <ⁿ_trans, <ⁿ_irrefl, Tri, below as is_below, level, above, tri_n, row_less, row_same}
 use Rattle.pages.specs.declared.Place.TheVariants.{Here, Gap}
 use Rattle.pages.specs.Places.{below, has, place_of}
@@ -37,18 +38,18 @@ module _ {a : Row} {l : List Row} (r : Rising l) (m : ℕ) (h : m < length l) wh
 
 -- ── counting ──
 
-not_less : (x a : Row) → ¬ (x <ⁿ a) → is_less (compare_rows x a) ≡ false
+not_less : (x a : Row) → ¬ (x <ⁿ a) → is_lt (compare_rows x a) ≡ false
 not_less x a h = go (compare_rows x a) (tri_n x a)
   where
-    go : (o : Order) → Tri ◌<ⁿ◌ x a o → is_less o ≡ false
+    go : (o : Ordering) → Tri ◌<ⁿ◌ x a o → is_lt o ≡ false
     go _ (is_below k) = absurd (h k)
     go _ (level e) = refl
     go _ (above k) = refl
 
-not_same : (x a : Row) → ¬ (x ≡ a) → is_same (compare_rows x a) ≡ false
+not_same : (x a : Row) → ¬ (x ≡ a) → is_eq (compare_rows x a) ≡ false
 not_same x a h = go (compare_rows x a) (tri_n x a)
   where
-    go : (o : Order) → Tri ◌<ⁿ◌ x a o → is_same o ≡ false
+    go : (o : Ordering) → Tri ◌<ⁿ◌ x a o → is_eq o ≡ false
     go _ (is_below k) = refl
     go _ (level e) = absurd (h e)
     go _ (above k) = refl
@@ -64,8 +65,8 @@ below_is a (x ∷ l) (suc k) h f g =
 
 has_yes : (a : Row) (l : List Row) (k : ℕ) → k < length l → get_or l k [] ≡ a → has a l ≡ true
 has_yes a [] k h e = absurd (not-suc-le-zero h)
-has_yes a (x ∷ l) zero h e = let q = ap is_same (ap (λ (y : Row). compare_rows y a) e ∙ row_same a) in rw q
-has_yes a (x ∷ l) (suc k) h e = rw (has_yes a l k (le_of_suc-le-suc h) e) (or-true (is_same (compare_rows x a)))
+has_yes a (x ∷ l) zero h e = let q = ap is_eq (ap (λ (y : Row). compare_rows y a) e ∙ row_same a) in rw q
+has_yes a (x ∷ l) (suc k) h e = rw (has_yes a l k (le_of_suc-le-suc h) e) (or-true (is_eq (compare_rows x a)))
 
 has_no : (a : Row) (l : List Row) → ((i : ℕ) → i < length l → ¬ (get_or l i [] ≡ a)) → has a l ≡ false
 has_no a [] f = refl

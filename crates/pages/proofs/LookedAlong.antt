@@ -5,10 +5,11 @@ use mathlib.Core.List.{List, [], ◌∷◌, map}
 use mathlib.Core.Bool.{Bool, true, false, ◌&&◌, and-true, and-false}
 use Prim.Native.Nat.{ℕ, ◌+◌, ◌-◌, ◌<◌, ◌≤◌}
 use lib.ListN.{length, drop}
-use Rattle.names.specs.Ordering.{Row, compare_rows, is_less, rising}
+use Rattle.names.specs.Ordering.{Row, compare_rows, rising}
+use Rattle.std.specs.Ordering.{is_lt}
 use Rattle.names.specs.Names.{is_name}
 use Rattle.numbers.specs.Bytes.{Bytes}
-use Rattle.numbers.specs.Lists.{every}
+use Rattle.std.specs.List.{list_all}
 use Rattle.slots.specs.declared.Seen.{Seen}
 use Rattle.slots.specs.declared.Seen.TheVariants.{Broken, NotRising, Rising}
 use Rattle.slots.specs.Slots.{size_over, name_over, slot_over, keeps_over}
@@ -39,19 +40,19 @@ step_is false o b v e = refl
 step_is true true b v e = refl
 step_is true false b v e = ap (seen e) (sym (and-false b))
 
-told_is : (room : ℕ) (b : Bool) (a : Row) (l : List Bytes) → told room b a l ≡ seen (every (keeps_over room) l) (b && rising (a ∷ names room l))
+told_is : (room : ℕ) (b : Bool) (a : Row) (l : List Bytes) → told room b a l ≡ seen (list_all (keeps_over room) l) (b && rising (a ∷ names room l))
 told_is room b a [] = ap (seen true) (sym (ap (λ (r : Bool). b && r) (rising_one a) ∙ and-true b))
 told_is room b a (s ∷ l) =
     let x = name_over room s in
-    let e = every (keeps_over room) l in
+    let e = list_all (keeps_over room) l in
     let k = keeps_over room s in
-    let o = is_less (compare_rows a x) in
+    let o = is_lt (compare_rows a x) in
     (λ i. step (seen k o) (told_is room b x l i) (told_is room false x l i))
     ∙ step_is k o b (rising (x ∷ names room l)) e
     ∙ ap (λ (r : Bool). seen (k && e) (b && r)) (sym (rising_cons a x (names room l)))
 
 -- a name is above the row of no tuples
-above_none : (a : Row) → is_name a ≡ true → is_less (compare_rows [] a) ≡ true
+above_none : (a : Row) → is_name a ≡ true → is_lt (compare_rows [] a) ≡ true
 unfolding is_name compare_rows
 above_none [] e = e
 above_none (t ∷ a) e = refl
@@ -60,19 +61,19 @@ after_none : (k e o r : Bool) → (k ≡ true → o ≡ true) → seen (k && e) 
 after_none false e o r f = refl
 after_none true e o r f = ap (λ (b : Bool). seen e (b && r)) (f refl)
 
-told_all : (room : ℕ) (l : List Bytes) → told room true [] l ≡ seen (every (keeps_over room) l) (rising (names room l))
+told_all : (room : ℕ) (l : List Bytes) → told room true [] l ≡ seen (list_all (keeps_over room) l) (rising (names room l))
 told_all room [] = ap (seen true) (sym rising_none)
 told_all room (s ∷ l) =
     let x = name_over room s in
     let k = keeps_over room s in
-    let e = every (keeps_over room) l in
+    let e = list_all (keeps_over room) l in
     told_is room true [] (s ∷ l)
     ∙ ap (seen (k && e)) (rising_cons [] x (names room l))
-    ∙ after_none k e (is_less (compare_rows [] x)) (rising (x ∷ names room l)) (λ h. above_none x (keeps_name room s h))
+    ∙ after_none k e (is_lt (compare_rows [] x)) (rising (x ∷ names room l)) (λ h. above_none x (keeps_name room s h))
 
 -- ── slot by slot ──
 
-pub told_first : (room : ℕ) (s : Bytes) → told room true [] (parts_over room s) ≡ seen (every (keeps_over room) (parts_over room s)) (rising (names_over room s))
+pub told_first : (room : ℕ) (s : Bytes) → told room true [] (parts_over room s) ≡ seen (list_all (keeps_over room) (parts_over room s)) (rising (names_over room s))
 told_first room s = told_all room (parts_over room s)
 
 module _ (room : ℕ) (s : Bytes) (at : ℕ) (b : Bool) (a : Row) where
@@ -93,7 +94,7 @@ module _ (room : ℕ) (s : Bytes) (at : ℕ) (b : Bool) (a : Row) where
     GoesOn c = (keeps_over room first ≡ true) × (told room c (name_over room first) rest ≡ told room b a (parts_over room (drop at s)))
 
     abbrev above : Bool
-    above = is_less (compare_rows a (name_over room first))
+    above = is_lt (compare_rows a (name_over room first))
 
     pub falls : (c : Bool) → NotRising ≡ seen_after room a first → c ≡ false → GoesOn c
     falls c e f = ((tells_falling (keeps_over room first) above e).0, ap (λ (d : Bool). told room d (name_over room first) rest) f ∙ told_turn e)

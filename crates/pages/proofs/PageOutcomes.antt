@@ -7,24 +7,24 @@ use native.Mathlib.Omega.{arith}
 use borrow.Author.Tests.{le-leb}
 use lib.ListN.{length, length-map}
 use Rattle.numbers.specs.Bytes.{Bytes, Octets}
-use Rattle.numbers.specs.Lists.{every}
+use Rattle.std.specs.List.{list_all}
 use Rattle.slots.specs.Slots.{Slot, slot_size, slot_bytes, is_slot}
-use Rattle.answers.specs.declared.Answer.TheVariants.{Accepted}
+use Rattle.std.specs.declared.result.Result.TheVariants.{Ok}
 use Rattle.answers.specs.Answers.{count_of, accept, write}
 use Rattle.pages.specs.Pages.{slots_of, pieces, keeps_layout}
 use Rattle.pages.proofs.RoundTrip.{page_back, written_length}
 
 -- a page of so many slots
-pub counted : (l : List Slot) → every is_slot l ≡ true → length (accept (pieces l)).bytes ≡ slot_size * count_of (accept (pieces l)).answer
+pub counted : (l : List Slot) → list_all is_slot l ≡ true → length (accept (pieces l)).bytes ≡ slot_size * count_of (accept (pieces l)).answer
 counted l e = written_length l e ∙ ap (λ (n : ℕ). slot_size * n) (count l)
   where
     count : (l : List Slot) → length l ≡ length (pieces l)
     count l = let q = length-map l slot_bytes in omega arith
 
 -- a page written again, where it fits
-pub page_again : (s : Bytes) → Octets s → keeps_layout s ≡ true → (room : ℕ) → length s ≤ room → write (pieces (slots_of s)) room ≡ record { answer = Accepted (length (slots_of s)); bytes = s }
+pub page_again : (s : Bytes) → Octets s → keeps_layout s ≡ true → (room : ℕ) → length s ≤ room → write (pieces (slots_of s)) room ≡ record { answer = Ok (length (slots_of s)); bytes = s }
 page_again s k e room h =
     let b = page_back s k e in
     let f : length (flatten (pieces (slots_of s))) ≤ room = rw b h in
     let c = length-map (slots_of s) slot_bytes in
-    rw (le-leb (length (flatten (pieces (slots_of s)))) room f) (λ i. record { answer = Accepted (c i); bytes = b i })
+    rw (le-leb (length (flatten (pieces (slots_of s)))) room f) (λ i. record { answer = Ok (c i); bytes = b i })

@@ -6,9 +6,11 @@ use Prim.Native.Nat.{ℕ, ◌+◌, ◌*◌, ◌-◌, ◌/◌, ◌<◌, ◌≤◌
 use native.Mathlib.Omega.{arith}
 use lib.ListN.{length, get_or, take, drop, length-take, length-drop, length-map, get_or-map}
 use lib.Seq.{drop-drop, take_all}
-use Rattle.names.specs.Ordering.{Row, compare_rows, is_less, rising}
+use Rattle.names.specs.Ordering.{Row, compare_rows, rising}
+use Rattle.std.specs.Ordering.{is_lt}
 use Rattle.numbers.specs.Bytes.{Bytes}
-use Rattle.numbers.specs.Lists.{every, first_parts}
+use Rattle.std.specs.List.{list_all}
+use Rattle.std.specs.Simd.{first_chunks}
 use Rattle.names.specs.Names.{limit}
 use Rattle.slots.specs.Tuples.{tuples_at}
 use Rattle.slots.specs.Slots.{size_over, name_over, slot_over, keeps_over, head_size, slot_size, depth_of, slot_of, name_of, keeps_slot}
@@ -25,15 +27,15 @@ abbrev pub lent_over : ℕ → Bytes → ℕ → Bytes
 lent_over room s a = take (a + size_over room - a) (drop a s)
 
 -- it is slot k of the first n, where it begins with that slot
-pub part_over : (room : ℕ) (s : Bytes) (n k a : ℕ) → a ≡ size_over room * k → k < n → lent_over room s a ≡ get_or (first_parts (size_over room) n s) k []
+pub part_over : (room : ℕ) (s : Bytes) (n k a : ℕ) → a ≡ size_over room * k → k < n → lent_over room s a ≡ get_or (first_chunks (size_over room) n s) k []
 part_over room s n k a q h = let e : a + size_over room - a ≡ size_over room = omega arith in rw (e, q) (sym (get_or_parts (size_over room) n s k h))
 
 -- .. and keeps the layout where all of these do
-pub lent_keeps : (room : ℕ) (s : Bytes) (n k : ℕ) → k < n → every (keeps_over room) (first_parts (size_over room) n s) ≡ true
+pub lent_keeps : (room : ℕ) (s : Bytes) (n k : ℕ) → k < n → list_all (keeps_over room) (first_chunks (size_over room) n s) ≡ true
     → keeps_over room (lent_over room s (size_over room * k)) ≡ true
 lent_keeps room s n k h e =
-    let l : k < length (first_parts (size_over room) n s) = rw length_equal h in
-    ap (keeps_over room) (part_over room s n k (size_over room * k) refl h) ∙ every_each (keeps_over room) (first_parts (size_over room) n s) k [] l e
+    let l : k < length (first_chunks (size_over room) n s) = rw length_equal h in
+    ap (keeps_over room) (part_over room s n k (size_over room * k) refl h) ∙ every_each (keeps_over room) (first_chunks (size_over room) n s) k [] l e
 
 module _ (room : ℕ) (s : Bytes) (at : ℕ) (h : size_over room ≤ length s - at) where
   pub lent_length_over : length (lent_over room s at) ≡ size_over room
@@ -91,26 +93,26 @@ module _ (s : Bytes) (n k a : ℕ) (q : a ≡ slot_size * k) (h : k < n) where
 
 module _ (f : Bytes → Bool) (s : Bytes) (n k : ℕ) where
   -- a turn: the answer b for slot k, and what is left after it
-  pub part_at : {b : Bool} → k < n → b ≡ f (lent s (slot_size * k)) → b && every f (drop (k + 1) (parts n s)) ≡ every f (drop k (parts n s))
+  pub part_at : {b : Bool} → k < n → b ≡ f (lent s (slot_size * k)) → b && list_all f (drop (k + 1) (parts n s)) ≡ list_all f (drop k (parts n s))
   part_at h e =
       let l : k < length (parts n s) = rw length_parts h in
       every_at f (parts n s) k [] l (e ∙ ap f (lent_part s n k (slot_size * k) refl h))
 
-  pub part_end : n ≤ k → true ≡ every f (drop k (parts n s))
+  pub part_end : n ≤ k → true ≡ list_all f (drop k (parts n s))
   part_end h = let l : length (parts n s) ≤ k = rw length_parts h in every_end f (parts n s) k l
 
 -- a page of one slot
-pub one_part : (s : Bytes) → length s ≡ slot_size → every keeps_slot (parts_of s) ≡ keeps_slot s
+pub one_part : (s : Bytes) → length s ≡ slot_size → list_all keeps_slot (parts_of s) ≡ keeps_slot s
 one_part s e =
     let q : length s / slot_size ≡ 1 = omega arith in
-    ap (λ (n : ℕ). every keeps_slot (parts n s)) q ∙ and-true (keeps_slot (take slot_size s)) ∙ ap keeps_slot (take_all slot_size s (omega arith))
+    ap (λ (n : ℕ). list_all keeps_slot (parts n s)) q ∙ and-true (keeps_slot (take slot_size s)) ∙ ap keeps_slot (take_all slot_size s (omega arith))
 
 -- ── neighbours ──
 
 pub length_names : (s : Bytes) (n : ℕ) → length (map name_in (map slot_of (parts n s))) ≡ n
 length_names s n = length-map (map slot_of (parts n s)) name_in ∙ length-map (parts n s) slot_of ∙ length_parts n s
 
-pub rising_cons : (a b : Row) (l : List Row) → rising (a ∷ b ∷ l) ≡ is_less (compare_rows a b) && rising (b ∷ l)
+pub rising_cons : (a b : Row) (l : List Row) → rising (a ∷ b ∷ l) ≡ is_lt (compare_rows a b) && rising (b ∷ l)
 unfolding rising
 rising_cons a b l = refl
 

@@ -12,7 +12,7 @@ use Rattle.names.specs.Names.{limit, fits, is_name}
 use Rattle.numbers.proofs.Bools.{and_0, and_1}
 use Rattle.numbers.proofs.Octets.{AllBytes, nil, byte, all_octets, join, zeros, four}
 use Rattle.numbers.specs.Bytes.{Octets}
-use Rattle.numbers.specs.Lists.{every}
+use Rattle.std.specs.List.{list_all}
 use Rattle.slots.specs.Tuples.{tuple_size}
 use Rattle.slots.specs.Slots.{bytes_over, Slot, slot_bytes, is_slot}
 use Rattle.slots.proofs.NameOctets.{name_all}
@@ -31,9 +31,9 @@ slot_all x e =
     let front : AllBytes (length x.name ∷ 0 ∷ 0 ∷ 0 ∷ []) = byte (length x.name) (omega arith) (zeros 3) in
     join (join (join front (four x.line (omega arith))) (name_all x.name n)) (zeros (tuple_size * (limit - length x.name)))
 
-written_all : (l : List Slot) → every is_slot l ≡ true → AllBytes (flatten (pieces l))
+written_all : (l : List Slot) → list_all is_slot l ≡ true → AllBytes (flatten (pieces l))
 written_all [] e = rw flat_none nil
-written_all (x ∷ l) e = rw (flat (slot_bytes x) (pieces l)) (join (slot_all x (and_0 (is_slot x) (every is_slot l) e)) (written_all l (and_1 (is_slot x) (every is_slot l) e)))
+written_all (x ∷ l) e = rw (flat (slot_bytes x) (pieces l)) (join (slot_all x (and_0 (is_slot x) (list_all is_slot l) e)) (written_all l (and_1 (is_slot x) (list_all is_slot l) e)))
 
-pub written_octets : (l : List Slot) → every is_slot l ≡ true → Octets (flatten (pieces l))
+pub written_octets : (l : List Slot) → list_all is_slot l ≡ true → Octets (flatten (pieces l))
 written_octets l e = all_octets (written_all l e)

@@ -1,12 +1,14 @@
 -- Pages and logs: document 01, "Pages, logs, epochs".
 use Rattle.std.specs.Prelude.{ℕ, ◌/◌, ◌%◌, List, [], ◌∷◌, map, Bool, ◌&&◌, length, eqb, leb}
 use Rattle.names.specs.Ordering.{Row, rising}
-use Rattle.numbers.specs.Lists.{every, first_parts, equal_parts}
+use Rattle.numbers.specs.Lists.{equal_parts}
+use Rattle.std.specs.List.{list_all}
+use Rattle.std.specs.Simd.{first_chunks}
 use Rattle.numbers.specs.Bytes.{Bytes, is_zero}
 use Rattle.names.specs.Names.{limit}
 use Rattle.slots.specs.Slots.{size_over, slot_over, keeps_over, bytes_over, Slot, slot_size}
 use Rattle.answers.specs.Answers.{◌else◌, check}
-use Rattle.answers.specs.declared.Answer.{Answer}
+use Rattle.answers.specs.Answers.{Answer}
 use Rattle.answers.specs.declared.Refusal.TheVariants.{BadLayout, NotRising, BadLog}
 
 -- "A page is 0..256 slots"
@@ -36,7 +38,7 @@ module _ (room : ℕ) where
   -- "A page is 0..256 slots"; "A length that is no whole number of slots or entries breaks the layout."
   unfoldable pub layout_over : Bytes → Bool
   layout_over s =
-      eqb (length s % size_over room) 0 && leb (length s / size_over room) max_slots && every (keeps_over room) (parts_over s)
+      eqb (length s % size_over room) 0 && leb (length s / size_over room) max_slots && list_all (keeps_over room) (parts_over s)
 
   -- "with strictly rising names"
   abbrev pub rises_over : Bytes → Bool
@@ -46,7 +48,7 @@ module _ (room : ℕ) where
 
 -- the first n slots' bytes, and those of all
 abbrev pub parts : ℕ → Bytes → List Bytes
-parts n s = first_parts slot_size n s
+parts n s = first_chunks slot_size n s
 
 abbrev pub parts_of : Bytes → List Bytes
 parts_of s = parts_over limit s
@@ -73,7 +75,7 @@ line_is_zero x = is_zero x.line
 
 -- "A log is a page of 1..256 slots whose line numbers are 0."
 unfoldable pub is_log : Bytes → Bool
-is_log s = keeps_layout s && rises s && leb 1 (length (slots_of s)) && every line_is_zero (slots_of s)
+is_log s = keeps_layout s && rises s && leb 1 (length (slots_of s)) && list_all line_is_zero (slots_of s)
 
 -- ── the checks ──
 

@@ -6,7 +6,7 @@
 ghost use Rattle.std.specs.Prelude.{◌≡◌, true, ◌+◌, ◌≤◌, [], length, get_or};
 ghost use Rattle.names.specs.Names.{limit, row_of};
 ghost use Rattle.slots.specs.Tuples.{row_at, Lies};
-ghost use Rattle.numbers.specs.Lists.{every};
+ghost use Rattle.std.specs.List.{list_all};
 ghost use Rattle.slots.specs.Slots.{keeps_over, slot_size, name_of, keeps_slot};
 ghost use Rattle.slots.specs.Looks.{seen};
 ghost use Rattle.pages.specs.Pages.{parts_over, rises_over, slots_of, names_of, rises, line_is_zero, keeps_layout, is_log, check_page, check_log};
@@ -14,8 +14,9 @@ ghost use Rattle.pages.specs.Looks.{seen_over, seen_in};
 ghost use Rattle.pages.specs.Places.{place_of};
 
 use answers::{Answer, Refusal};
-use names::{LIMIT, Name, Order};
+use names::{LIMIT, Name};
 use slots::{HEAD, SLOT, Seen, Span, TUPLE};
+use std::cmp::Ordering;
 
 // "A page is 0..256 slots": the most slots, and the bytes of the largest page.
 pub const SLOTS: usize = 256;
@@ -26,7 +27,7 @@ pub const PAGE: usize = SLOTS * SLOT;
 // after none. 1 comes before 2 wherever it stands, so that a name that does not rise ends nothing.
 fn look_along(page: &[u8], room: usize) -> Seen
     requires { room ≤ limit }
-    ensures { result ≡ seen (every (keeps_over room) (parts_over room page.now)) (rises_over room page.now) }
+    ensures { result ≡ seen (list_all (keeps_over room) (parts_over room page.now)) (rises_over room page.now) }
 {
     let size = HEAD + TUPLE * room;
     let mut rising = true;
@@ -92,7 +93,7 @@ pub fn slot_ok(slot: &[u8]) -> bool
 
 // The line number of every slot is 0.
 fn lines_are_zero(page: &[u8]) -> bool
-    ensures { result ≡ every line_is_zero (slots_of page.now) }
+    ensures { result ≡ list_all line_is_zero (slots_of page.now) }
 {
     let n = page.len() / SLOT;
     let mut k: usize = 0;
@@ -127,9 +128,9 @@ pub fn check_page(page: &[u8]) -> Answer
     ensures { result ≡ check_page page.now }
 {
     match look(page) {
-        Seen::Broken => Answer::Refused(Refusal::BadLayout),
-        Seen::NotRising => Answer::Refused(Refusal::NotRising),
-        Seen::Rising => Answer::Accepted(page.len() / SLOT),
+        Seen::Broken => Err(Refusal::BadLayout),
+        Seen::NotRising => Err(Refusal::NotRising),
+        Seen::Rising => Ok(page.len() / SLOT),
     }
 }
 
@@ -138,9 +139,9 @@ pub fn check_log(log: &[u8]) -> Answer
     ensures { result ≡ check_log log.now }
 {
     if !log_ok(log) {
-        return Answer::Refused(Refusal::BadLog);
+        return Err(Refusal::BadLog);
     }
-    Answer::Accepted(log.len() / SLOT)
+    Ok(log.len() / SLOT)
 }
 
 // Where the name of slot k stands; beyond the page there is none.
@@ -186,11 +187,11 @@ pub fn find(page: &[u8], slot: &[u8]) -> Place
         let at = SLOT * middle;
         let end = at + SLOT;
         match slots::compare_slots(&page[at..end], slot, LIMIT) {
-            Order::Less => {
+            Ordering::Less => {
                 low = middle + 1;
             }
-            Order::Same => return Place::Here(middle),
-            Order::More => {
+            Ordering::Equal => return Place::Here(middle),
+            Ordering::Greater => {
                 high = middle;
             }
         }

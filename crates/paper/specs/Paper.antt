@@ -9,9 +9,10 @@ use Rattle.std.specs.Prelude.{ℕ, suc, ◌-◌, ◌<◌, ◌≡◌, List, [], �
 use Rattle.std.proofs.Math.IntN.{pred_ℤ}
 use Rattle.std.specs.Int.Signed.{lt_z, non_neg}
 use Rattle.names.specs.declared.Author.{Author}
-use Rattle.names.specs.declared.Order.{Order}
-use Rattle.names.specs.declared.Order.TheVariants.{Less, Same, More}
-use Rattle.names.specs.Ordering.{Row, compare_tuples, compare_rows, is_same, rising, ◌<ⁿ◌, ◌≤ⁿ◌}
+use Rattle.std.specs.declared.cmp.Ordering.{Ordering}
+use Rattle.std.specs.declared.cmp.Ordering.TheVariants.{Less, Equal, Greater}
+use Rattle.names.specs.Ordering.{Row, compare_tuples, compare_rows, rising, ◌<ⁿ◌, ◌≤ⁿ◌}
+use Rattle.std.specs.Ordering.{is_eq}
 use Rattle.names.specs.Names.{m, M, is_name}
 use Rattle.name_renames.specs.Renaming.{choose, if_below, first_position, lead, N, rename, take_back, fresh}
 use Rattle.name_renames.specs.Rules.{◌below◌}
@@ -31,7 +32,7 @@ new_id p author offset = lead p author offset ∷ []
 -- "id ∈ renamedIds"
 unfoldable pub is_among : Row → List Row → Bool
 is_among id [] = false
-is_among id (r ∷ rest) = is_same (compare_rows id r) || is_among id rest
+is_among id (r ∷ rest) = is_eq (compare_rows id r) || is_among id rest
 
 -- "FINDINDEX : Retrieves the index of the given id in the given list of ids renamedIds." It is asked only of an id that is there.
 unfoldable pub find_index : Row → List Row → ℕ
@@ -50,7 +51,7 @@ find_index_of_pred id (r ∷ q ∷ rest) = if_below q id (suc (find_index_of_pre
 -- say it, and then an id after newLastId would read renamedIds past its end.
 unfoldable pub is_renamed_id : Row → ℕ → Author → ℕ → Bool
 is_renamed_id [] p author n = false
-is_renamed_id (t ∷ []) p author n = is_same (compare_tuples t (lead p author t.offset)) && lt_z t.offset (pos n) && non_neg t.offset
+is_renamed_id (t ∷ []) p author n = is_eq (compare_tuples t (lead p author t.offset)) && lt_z t.offset (pos n) && non_neg t.offset
 is_renamed_id (t ∷ u ∷ a) p author n = false
 
 -- an offset as an index. It is asked only of offsets from 0 on.
@@ -83,7 +84,7 @@ create_id_from_base (t ∷ u ∷ a) offset = t ∷ create_id_from_base (u ∷ a)
 unfoldable pub is_prefix : Row → Row → Bool
 is_prefix a [] = false
 is_prefix [] (t ∷ b) = true
-is_prefix (s ∷ a) (t ∷ b) = is_same (compare_tuples t s) && is_prefix a b
+is_prefix (s ∷ a) (t ∷ b) = is_eq (compare_tuples t s) && is_prefix a b
 
 module _ (renamedIds : List Row) where
   -- "firstId ← renamedIds[0]"
@@ -259,7 +260,7 @@ plain_names (x ∷ l) = is_name x && plain x && plain_names l
 
 -- Two names c < d of the child epoch, valid and without markers, over such a log, which is rising: the paper's steps give results
 -- that compare as said, and 01's keep them in order.
-pub record Example (found : Order) (author : Author) (log : List Row) (c d : Row) : Type 0 where
+pub record Example (found : Ordering) (author : Author) (log : List Row) (c d : Row) : Type 0 where
   pub names : plain_names (c ∷ d ∷ log) ≡ true
   pub log_rises : rising log ≡ true
   pub child : compare_rows c d ≡ Less
@@ -268,11 +269,11 @@ pub record Example (found : Order) (author : Author) (log : List Row) (c d : Row
 
 -- under the paper's steps the two become one name
 abbrev pub Meet : Author → List Row → Row → Row → Type 0
-Meet author log c d = Example Same author log c d
+Meet author log c d = Example Equal author log c d
 
 -- under the paper's steps the two change places
 abbrev pub Cross : Author → List Row → Row → Row → Type 0
-Cross author log c d = Example More author log c d
+Cross author log c d = Example Greater author log c d
 
 -- (9,1,1,0)·x, and (9,1,1,0)(9,1,1,0)·x
 abbrev pub behind : Row → Row

@@ -6,10 +6,11 @@ use mathlib.Core.Bool.{Bool, true, false, ◌&&◌, and-false}
 use Prim.Native.Nat.{ℕ, ◌+◌, ◌-◌, ◌<◌, ◌≤◌}
 use native.Mathlib.Omega.{arith}
 use lib.ListN.{length, drop}
-use Rattle.names.specs.Ordering.{Row, compare_rows, is_less, rising}
+use Rattle.names.specs.Ordering.{Row, compare_rows, rising}
+use Rattle.std.specs.Ordering.{is_lt}
 use Rattle.names.specs.Names.{is_name, fits}
 use Rattle.numbers.specs.Bytes.{Bytes}
-use Rattle.numbers.specs.Lists.{every}
+use Rattle.std.specs.List.{list_all}
 use Rattle.numbers.proofs.Bools.{and_0}
 use Rattle.slots.specs.declared.Span.{Span}
 use Rattle.slots.specs.Tuples.{row_at, Within}
@@ -25,7 +26,7 @@ use Rattle.read_messages.proofs.AtCursor.{names_next, after_next}
 
 -- names that come after the row b
 abbrev good_after : Row → List Row → Bool
-good_after b l = every name_fits l && rising (b ∷ l)
+good_after b l = list_all name_fits l && rising (b ∷ l)
 
 -- the row of no tuples is below every name
 good_first : (l : List Row) → good_after [] l ≡ good_names l
@@ -46,15 +47,15 @@ crossed true g false k = and-false g
 
 module _ (b a : Row) (l : List Row) where
   -- a is a name and above b, and they go on after a
-  good_next : good_after b (a ∷ l) ≡ (name_fits a && is_less (compare_rows b a)) && good_after a l
+  good_next : good_after b (a ∷ l) ≡ (name_fits a && is_lt (compare_rows b a)) && good_after a l
   good_next =
-      ap (λ (x : Bool). every name_fits (a ∷ l) && x) (rising_cons b a l)
-      ∙ crossed (name_fits a) (every name_fits l) (is_less (compare_rows b a)) (rising (a ∷ l))
+      ap (λ (x : Bool). list_all name_fits (a ∷ l) && x) (rising_cons b a l)
+      ∙ crossed (name_fits a) (list_all name_fits l) (is_lt (compare_rows b a)) (rising (a ∷ l))
 
-  good_on : name_fits a && is_less (compare_rows b a) ≡ true → good_after b (a ∷ l) ≡ good_after a l
+  good_on : name_fits a && is_lt (compare_rows b a) ≡ true → good_after b (a ∷ l) ≡ good_after a l
   good_on f = good_next ∙ ap (λ (x : Bool). x && good_after a l) f
 
-  good_stops : name_fits a && is_less (compare_rows b a) ≡ false → good_after b (a ∷ l) ≡ false
+  good_stops : name_fits a && is_lt (compare_rows b a) ≡ false → good_after b (a ∷ l) ≡ false
   good_stops f = good_next ∙ ap (λ (x : Bool). x && good_after a l) f
 
 -- k names were passed from c on, the last of them stands at b; the cursor is at p
@@ -110,16 +111,16 @@ module _ {s : Bytes} {c most : ℕ} {b : Span} {p k : ℕ} (v : Passing s c most
     turn : good_after last (here ∷ after) ≡ good_names (names_within most (drop c s))
     turn = sym (ap (good_after last) next) ∙ v.good
 
-    pub passing_stops : name_fits (row_at s a) && is_less (compare_rows (row_at s b) (row_at s a)) ≡ false → false ≡ good_names (names_within most (drop c s))
+    pub passing_stops : name_fits (row_at s a) && is_lt (compare_rows (row_at s b) (row_at s a)) ≡ false → false ≡ good_names (names_within most (drop c s))
     passing_stops f = sym (good_stops last here after f) ∙ turn
 
-    pub passing_on : Within s a → name_fits (row_at s a) && is_less (compare_rows (row_at s b) (row_at s a)) ≡ true
+    pub passing_on : Within s a → name_fits (row_at s a) && is_lt (compare_rows (row_at s b) (row_at s a)) ≡ true
         → Passing s c most a (p + (field_head + size_in (drop p s))) (k + 1)
     passing_on r f = record {
       few = omega arith;
       within = name_long name_tag s p e;
       room = r;
-      begins = leads_name s a.at a.count (and_0 (is_name here) (fits here) (and_0 (name_fits here) (is_less (compare_rows last here)) f));
+      begins = leads_name s a.at a.count (and_0 (is_name here) (fits here) (and_0 (name_fits here) (is_lt (compare_rows last here)) f));
       good = sym (good_on last here after f) ∙ turn;
       count = let n = v.count in let z = ap length next in omega arith;
       rest = sym (after_next s p most k h e) ∙ v.rest;

@@ -12,7 +12,7 @@ use lib.Seq.{drop-drop}
 use Rattle.names.specs.Ordering.{rising}
 use Rattle.numbers.proofs.Bools.{and_1}
 use Rattle.numbers.specs.Bytes.{Bytes}
-use Rattle.numbers.specs.Lists.{every}
+use Rattle.std.specs.List.{list_all}
 use Rattle.answers.specs.Answers.{ask}
 use Rattle.fields.specs.Fields.{stands}
 use Rattle.fields.proofs.FieldInverse.{standing}
@@ -60,7 +60,7 @@ keeps_by s =
     let author = is_author x.author in
     let line = is_line x.kind x.line in
     let few = le-leb (length l) m (names_few m (drop names_place s)) in
-    order (numbers_stand s) (ends s) kind epoch author (every name_fits l) (leb 1 (length l)) (leb (length l) m) (rising l) line few
+    order (numbers_stand s) (ends s) kind epoch author (list_all name_fits l) (leb 1 (length l)) (leb (length l) m) (rising l) line few
 
 -- what is told, by the answers to the tests
 pub telling_by : (s : Bytes) (h g w e o : Bool)

@@ -11,7 +11,7 @@ use Rattle.names.specs.Ordering.{Row}
 use Rattle.names.specs.Names.{limit, is_name, fits}
 use Rattle.numbers.proofs.Bools.{and_0, and_1}
 use Rattle.numbers.specs.Bytes.{Bytes, put}
-use Rattle.numbers.specs.Lists.{every}
+use Rattle.std.specs.List.{list_all}
 use Rattle.slots.specs.Slots.{slot_size, slot_bytes}
 use Rattle.numbers.proofs.Put.{put_put, put_length, put_none}
 use Rattle.slots.proofs.RoundTrip.{slot_length}
@@ -32,19 +32,19 @@ slots_with l = flatten (pieces (map bare l))
 pub record Placing (s : Bytes) (c n : ℕ) (o₀ o : Bytes) (p i : ℕ) : Type 0 where
   pub few : i ≤ n
   pub count : i + length (names_within (n - i) (drop p s)) ≡ n
-  pub fit : every name_fits (names_within (n - i) (drop p s)) ≡ true
+  pub fit : list_all name_fits (names_within (n - i) (drop p s)) ≡ true
   pub room : length o ≡ length o₀
   pub stand : put o (slot_size * i) (slots_with (names_within (n - i) (drop p s))) ≡ put o₀ 0 (slots_with (names_within n (drop c s)))
 
 pub placing_first : (s : Bytes) (c n : ℕ) (o : Bytes) → length (names_within n (drop c s)) ≡ n
-    → every name_fits (names_within n (drop c s)) ≡ true → Placing s c n o o c 0
+    → list_all name_fits (names_within n (drop c s)) ≡ true → Placing s c n o o c 0
 placing_first s c n o h f =
     let e : n - 0 ≡ n = omega arith in
     let l = ap (λ (m : ℕ). names_within m (drop c s)) e in
     record {
       few = omega arith;
       count = let z = ap length l in omega arith;
-      fit = ap (every name_fits) l ∙ f;
+      fit = ap (list_all name_fits) l ∙ f;
       room = refl;
       stand = ap (λ (r : List Row). put o 0 (slots_with r)) l;
     }
@@ -71,11 +71,11 @@ module _ {s : Bytes} {c n : ℕ} {o₀ o : Bytes} {p i : ℕ} (v : Placing s c n
     next : names_within (n - i) (drop p s) ≡ here ∷ after
     next = names_next s p n i h placing_stands
 
-    all_fit_lem : every name_fits (here ∷ after) ≡ true
-    all_fit_lem = sym (ap (every name_fits) next) ∙ v.fit
+    all_fit_lem : list_all name_fits (here ∷ after) ≡ true
+    all_fit_lem = sym (ap (list_all name_fits) next) ∙ v.fit
 
     pub placing_few : length (tuples_in (drop p s)) ≤ limit
-    placing_few = leb-true (length here) limit (and_1 (is_name here) (fits here) (and_0 (name_fits here) (every name_fits after) all_fit_lem))
+    placing_few = leb-true (length here) limit (and_1 (is_name here) (fits here) (and_0 (name_fits here) (list_all name_fits after) all_fit_lem))
 
     long : length (slot_bytes (bare here)) ≡ slot_size
     long = slot_length (bare here) placing_few
@@ -90,7 +90,7 @@ module _ {s : Bytes} {c n : ℕ} {o₀ o : Bytes} {p i : ℕ} (v : Placing s c n
         record {
           few = omega arith;
           count = let z = v.count in let y = ap length next in omega arith;
-          fit = and_1 (name_fits here) (every name_fits after) all_fit_lem;
+          fit = and_1 (name_fits here) (list_all name_fits after) all_fit_lem;
           room = ap length e ∙ put_length o (slot_size * i) (omega arith) w (omega (arith, long)) ∙ v.room;
           stand =
               (λ j. put (e j) (q j) (slots_with after))

@@ -5,7 +5,7 @@ use mathlib.Core.Bool.{Bool, true, false}
 use Prim.Native.Nat.{ℕ}
 use lib.ListN.{length, drop}
 use Rattle.numbers.specs.Bytes.{Bytes}
-use Rattle.numbers.specs.Lists.{every}
+use Rattle.std.specs.List.{list_all}
 use Rattle.answers.specs.Answers.{ask}
 use Rattle.name_fields.specs.NameFields.{name_fits}
 use Rattle.messages.specs.Messages.{most_names, names_within, kind_in, names_place, names_in, numbers_in, parts_in, keeps_message}
@@ -34,5 +34,5 @@ module _ (s : Bytes) where
       pub told_few : length (names_within n (drop names_place s)) ≡ n
       told_few = ap length names_told ∙ sym e
 
-      pub told_fit : every name_fits (names_within n (drop names_place s)) ≡ true
-      told_fit = ap (every name_fits) names_told ∙ (good (parts_in s) (parts_message s h)).named
+      pub told_fit : list_all name_fits (names_within n (drop names_place s)) ≡ true
+      told_fit = ap (list_all name_fits) names_told ∙ (good (parts_in s) (parts_message s h)).named

@@ -4,7 +4,7 @@
 use Rattle.std.specs.Prelude.{ℕ, List, Bool, true, false, ◌&&◌, length, drop}
 use Rattle.names.specs.Ordering.{Row, rising}
 use Rattle.numbers.specs.Bytes.{Bytes}
-use Rattle.numbers.specs.Lists.{every}
+use Rattle.std.specs.List.{list_all}
 use Rattle.answers.specs.Answers.{ask}
 use Rattle.fields.specs.Fields.{stands}
 use Rattle.messages.specs.declared.Numbers.{Numbers}
@@ -19,7 +19,7 @@ numbers_stand s = stands kind_tag kind_size s && stands epoch_tag pair_size (dro
 
 -- each is a name, and they rise
 abbrev pub good_names : List Row → Bool
-good_names l = every name_fits l && rising l
+good_names l = list_all name_fits l && rising l
 
 -- of what is no message, zeros
 abbrev pub untold : Told

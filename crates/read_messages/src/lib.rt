@@ -5,10 +5,11 @@
 
 ghost use Rattle.std.specs.Prelude.{◌≡◌, true, cond, ◌&&◌, ◌+◌, ◌*◌, ◌≤◌, eqb, length, drop};
 ghost use mathlib.Core.List.{map, flatten};
-ghost use Rattle.names.specs.Ordering.{compare_rows, is_less};
+ghost use Rattle.names.specs.Ordering.{compare_rows};
+ghost use Rattle.std.specs.Ordering.{is_lt};
 ghost use Rattle.names.specs.Names.{limit};
 ghost use Rattle.numbers.specs.Bytes.{at32, put};
-ghost use Rattle.numbers.specs.Lists.{every};
+ghost use Rattle.std.specs.List.{list_all};
 ghost use Rattle.slots.specs.Tuples.{row_at, Within};
 ghost use Rattle.slots.specs.Slots.{slot_size, slot_bytes};
 ghost use Rattle.slots.specs.Looks.{leads};
@@ -45,7 +46,7 @@ fn span_in(message: &[u8], cursor: Cursor) -> Span
 // The tuples are 1 to LIMIT, are a name, and rise above the last. What the two names share is looked at once.
 fn name_follows(message: &[u8], last: Span, name: Span) -> bool
     requires { Within message.now last × (leads (row_at message.now last) ≡ true) × Within message.now name }
-    ensures { result ≡ (name_fits (row_at message.now name) && is_less (compare_rows (row_at message.now last) (row_at message.now name))) }
+    ensures { result ≡ (name_fits (row_at message.now name) && is_lt (compare_rows (row_at message.now last) (row_at message.now name))) }
 {
     if name.count < 1 {
         return false;
@@ -330,7 +331,7 @@ fn write_slot(message: &[u8], cursor: Cursor, i: usize, out: &mut [u8])
 
 // The n names whose fields stand from the cursor on, from the start of out.
 fn write_each(message: &[u8], cursor: Cursor, n: usize, out: &mut [u8])
-    requires { (length (names_within n (drop cursor.at message.now)) ≡ n) × (every name_fits (names_within n (drop cursor.at message.now)) ≡ true) × (slot_size * n ≤ length out.old) }
+    requires { (length (names_within n (drop cursor.at message.now)) ≡ n) × (list_all name_fits (names_within n (drop cursor.at message.now)) ≡ true) × (slot_size * n ≤ length out.old) }
     ensures { out.new ≡ put out.old 0 (flatten (pieces (map bare (names_within n (drop cursor.at message.now))))) }
 {
     let mut i: usize = 0;
@@ -346,7 +347,7 @@ fn write_each(message: &[u8], cursor: Cursor, n: usize, out: &mut [u8])
 
 // The same, with no loop for the one name of an insert or a remove, which most messages are.
 fn write_slots(message: &[u8], cursor: Cursor, n: usize, out: &mut [u8])
-    requires { (length (names_within n (drop cursor.at message.now)) ≡ n) × (every name_fits (names_within n (drop cursor.at message.now)) ≡ true) × (slot_size * n ≤ length out.old) }
+    requires { (length (names_within n (drop cursor.at message.now)) ≡ n) × (list_all name_fits (names_within n (drop cursor.at message.now)) ≡ true) × (slot_size * n ≤ length out.old) }
     ensures { out.new ≡ put out.old 0 (flatten (pieces (map bare (names_within n (drop cursor.at message.now))))) }
 {
     if n == 1 {
@@ -365,11 +366,11 @@ pub struct Reading {
 
 // "a refused read gives kind, epoch, author and line number as zeros"
 fn unread(refusal: Refusal) -> Reading
-    ensures { (result.answer ≡ Answer.Refused refusal) × (result.numbers ≡ no_numbers) }
+    ensures { (result.answer ≡ Answer.Err refusal) × (result.numbers ≡ no_numbers) }
 {
     let numbers = zeros();
     Reading {
-        answer: Answer::Refused(refusal),
+        answer: Err(refusal),
         numbers,
     }
 }
@@ -389,7 +390,7 @@ pub fn read(message: &[u8], out: &mut [u8]) -> Reading
     write_slots(message, Cursor { at: NAMES }, told.names, out);
     let numbers = told.numbers;
     Reading {
-        answer: Answer::Accepted(told.names),
+        answer: Ok(told.names),
         numbers,
     }
 }

@@ -5,7 +5,8 @@
 #![tactic(auto)]
 
 ghost use Rattle.std.specs.Prelude.{◌≡◌, true, [], ◌∷◌, ◌++◌, ◌+◌, ◌-◌, ◌≤◌, ◌<◌, length, take, drop, get_or};
-ghost use Rattle.names.specs.Ordering.{compare_rows, is_less};
+ghost use Rattle.names.specs.Ordering.{compare_rows};
+ghost use Rattle.std.specs.Ordering.{is_lt};
 ghost use Rattle.names.specs.Names.{limit, fits, one_below, m, M};
 ghost use Rattle.numbers.specs.Bytes.{put};
 ghost use Rattle.slots.specs.Tuples.{row_at, Lies};
@@ -15,9 +16,10 @@ ghost use Rattle.one_name.specs.Changes.{changed_by};
 ghost use Rattle.one_name.specs.Backs.{shaped, Stands, single as as_back};
 ghost use Rattle.renamed_slots.specs.Joints.{below_if, marker_if, joint as joint_back};
 
-use names::{Order, Tuple};
+use names::Tuple;
 use one_name::{Back, Change, Single};
 use slots::{HEAD, SLOT, Span, TUPLE};
+use std::cmp::Ordering;
 
 // Where the last tuple of a slot stands.
 const LAST: usize = SLOT - TUPLE;
@@ -188,7 +190,7 @@ fn tuple_back(slot: &[u8], log: &[u8], back: Back, i: usize) -> Tuple
 pub fn backs_rise(first: &[u8], a: Back, second: &[u8], b: Back, log: &[u8]) -> bool
     requires first_value { (keeps_slot first.now ≡ true) × (keeps_slot second.now ≡ true) × (is_log log.now ≡ true) }
     requires stands { Stands (name_of first.now) (names_of log.now) a × Stands (name_of second.now) (names_of log.now) b }
-    ensures { result ≡ is_less (compare_rows (shaped (name_of first.now) (names_of log.now) a) (shaped (name_of second.now) (names_of log.now) b)) }
+    ensures { result ≡ is_lt (compare_rows (shaped (name_of first.now) (names_of log.now) a) (shaped (name_of second.now) (names_of log.now) b)) }
 {
     let n = count_back(first, log, a);
     let m = count_back(second, log, b);
@@ -201,9 +203,9 @@ pub fn backs_rise(first: &[u8], a: Back, second: &[u8], b: Back, log: &[u8]) -> 
             break true;
         }
         match names::compare_tuples(tuple_back(first, log, a, i), tuple_back(second, log, b, i)) {
-            Order::Less => break true,
-            Order::More => break false,
-            Order::Same => {}
+            Ordering::Less => break true,
+            Ordering::Greater => break false,
+            Ordering::Equal => {}
         }
         i += 1;
     }

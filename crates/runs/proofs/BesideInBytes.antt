@@ -9,9 +9,10 @@ use borrow.Author.Tests.{eq-eqb, ne_eqb}
 use lib.Dec.{eqb}
 use lib.ListN.{length}
 use Rattle.names.specs.declared.Tuple.{Tuple}
-use Rattle.names.specs.declared.Order.{Order}
-use Rattle.names.specs.declared.Order.TheVariants.{Less, Same, More}
-use Rattle.names.specs.Ordering.{Row, then, compare_tuples, compare_rows}
+use Rattle.std.specs.declared.cmp.Ordering.{Ordering}
+use Rattle.std.specs.declared.cmp.Ordering.TheVariants.{Less, Equal, Greater}
+use Rattle.names.specs.Ordering.{Row, compare_tuples, compare_rows}
+use Rattle.std.specs.Ordering.{ordering_then}
 use Rattle.numbers.specs.Bytes.{Bytes}
 use Rattle.slots.specs.Tuples.{tuple_at, tuples_at, tuple_size}
 use Rattle.slots.proofs.TuplesInBytes.{length_tuples_at, split_tuples_at}
@@ -20,10 +21,10 @@ use Rattle.runs.specs.declared.Stand.TheVariants.{Below}
 use Rattle.runs.specs.Beside.{decided, compare_fronts, by_offsets, is_empty, beside_of}
 use Rattle.runs.proofs.RunNames.{to_last}
 
-decided_then : (o p : Order) (r : Stand) → decided o (decided p r) ≡ decided (then o p) r
+decided_then : (o p : Ordering) (r : Stand) → decided o (decided p r) ≡ decided (ordering_then o p) r
 decided_then Less p r = refl
-decided_then Same p r = refl
-decided_then More p r = refl
+decided_then Equal p r = refl
+decided_then Greater p r = refl
 
 -- a tuple that is not the last
 beside_first : (s : Tuple) (w : Row) (t u : Tuple) (b : Row) → beside_of (s ∷ (w ++ (t ∷ []))) (u ∷ b) ≡ decided (compare_tuples s u) (beside_of (w ++ (t ∷ [])) b)
@@ -60,15 +61,15 @@ by_last a p n b q k =
 
 -- n tuples from p on in a, and k from q on in b; what stands before the last compares as o
 module _ (a : Bytes) (p n : ℕ) (b : Bytes) (q k : ℕ) (h : 1 ≤ n) where
-  pub beside_short : {r o : Order} → k ≤ n - 1 → r ≡ compare_rows (tuples_at a p (n - 1)) (tuples_at b q k) → r ≡ o → decided o Below ≡ beside_of (tuples_at a p n) (tuples_at b q k)
+  pub beside_short : {r o : Ordering} → k ≤ n - 1 → r ≡ compare_rows (tuples_at a p (n - 1)) (tuples_at b q k) → r ≡ o → decided o Below ≡ beside_of (tuples_at a p n) (tuples_at b q k)
   beside_short g e f =
       let w = tuples_at a p (n - 1) in
       let v = tuples_at b q k in
-      ap (λ (z : Order). decided z Below) (sym f ∙ e)
+      ap (λ (z : Ordering). decided z Below) (sym f ∙ e)
       ∙ sym (short w (tuple_at a (p + tuple_size * (n - 1))) v (omega (arith, length_tuples_at a p (n - 1), length_tuples_at b q k)))
       ∙ ap (λ (z : Row). beside_of z v) (sym (to_last a p n h))
 
-  pub beside_long : {r o : Order} → n - 1 < k → r ≡ compare_rows (tuples_at a p (n - 1)) (tuples_at b q (n - 1)) → r ≡ o → decided o (by_last a p n b q k) ≡ beside_of (tuples_at a p n) (tuples_at b q k)
+  pub beside_long : {r o : Ordering} → n - 1 < k → r ≡ compare_rows (tuples_at a p (n - 1)) (tuples_at b q (n - 1)) → r ≡ o → decided o (by_last a p n b q k) ≡ beside_of (tuples_at a p n) (tuples_at b q k)
   beside_long g e f =
       let w = tuples_at a p (n - 1) in
       let v = tuples_at b q (n - 1) in

@@ -13,8 +13,8 @@ use lib.IntN.{ℤ, pos, suc_ℤ, ℤ_discrete}
 use lib.ListN.{length, length-append}
 use lib.Signed.{lt_z}
 use Rattle.names.specs.declared.Tuple.{Tuple}
-use Rattle.names.specs.declared.Order.{Order}
-use Rattle.names.specs.declared.Order.TheVariants.{Less, More}
+use Rattle.std.specs.declared.cmp.Ordering.{Ordering}
+use Rattle.std.specs.declared.cmp.Ordering.TheVariants.{Less, Greater}
 use Rattle.names.specs.Ordering.{Row, compare_ℕ, compare_tuples, compare_rows, ◌<ᶻ◌, up, across, ◌<ᵗ◌, offset, ◌<ⁿ◌, ends, differ, same}
 use Rattle.names.specs.Names.{is_name, lowered, one_below}
 use Rattle.names.proofs.Laws.{Tri, below as is_below, level as is_level, above as is_above, tuple_≡, tri_t, <ᵗ_trans, <ᵗ_irrefl, <ⁿ_trans, <ⁿ_irrefl, <≤_trans, ≤<_trans, row_less, row_more, lowered_next, ++_prefix, Before as BeforeRow, prefix, apart as apart_row, before as before_row}
@@ -109,7 +109,7 @@ module _ (t u : Tuple) {x : ℕ} (e : t.offset ≡ pos x) where
   one_tuple b =
       subst (λ (z : ℤ). SaysOne b (decided (compare_fronts t u) (by_offsets z u.offset (is_empty b)))) (sym e) (go (compare_fronts t u) (fronts t u))
     where
-      go : (o : Order) → Tri ◌<ᵗ◌ (front_of t) (front_of u) o → SaysOne b (decided o (by_offsets (pos x) u.offset (is_empty b)))
+      go : (o : Ordering) → Tri ◌<ᵗ◌ (front_of t) (front_of u) o → SaysOne b (decided o (by_offsets (pos x) u.offset (is_empty b)))
       go _ (is_below h) = above (over b h)
       go _ (is_level g) = by_offset g b
       go _ (is_above h) = below (under b h) (not_before b h)
@@ -154,7 +154,7 @@ says_from (t ∷ a) [] e =
 says_from (t ∷ []) (u ∷ b) e = one_tuple t u e b
 says_from (t ∷ s ∷ a) (u ∷ b) e = go (compare_tuples t u) (tri_t t u) (says_from (s ∷ a) b e)
   where
-    go : (o : Order) → Tri ◌<ᵗ◌ t u o → Says (s ∷ a) b (beside_of (s ∷ a) b) → Says (t ∷ s ∷ a) (u ∷ b) (decided o (beside_of (s ∷ a) b))
+    go : (o : Ordering) → Tri ◌<ᵗ◌ t u o → Says (s ∷ a) b (beside_of (s ∷ a) b) → Says (t ∷ s ∷ a) (u ∷ b) (decided o (beside_of (s ∷ a) b))
     go _ (is_below h) r = above (λ k. rw (on t s a k) (differ h))
     go _ (is_level q) r = rw (← q) (after_same t s a r)
     go _ (is_above h) r = below (λ k. rw (on t s a k) (differ h)) (not_back t s a u b h)
@@ -199,11 +199,11 @@ laws = record {
 -- ── each name of a run against another ──
 
 -- how the k-th name after the first compares with one that stands so
-abbrev pub against : Stand → ℕ → Order
-against Below k = More
-against Before k = More
+abbrev pub against : Stand → ℕ → Ordering
+against Below k = Greater
+against Before k = Greater
 against (At i) k = compare_ℕ k i
-against (Beyond i) k = cond (leb k i) Less More
+against (Beyond i) k = cond (leb k i) Less Greater
 against Above k = Less
 
 module _ (a : Row) (h : 1 ≤ length a) where

@@ -10,8 +10,9 @@ use native.Mathlib.Omega.{arith}
 use lib.IntN.{ℤ, pos, negsuc, suc_ℤ, suc-pred, pred-suc}
 use lib.ListN.{length}
 use Rattle.names.specs.declared.Tuple.{Tuple}
-use Rattle.names.specs.declared.Order.{Order}
-use Rattle.names.specs.Ordering.{Row, compare_ℕ, compare_rows, is_same, ◌<ᶻ◌, up, across, down, ◌<ᵗ◌, offset, ◌<ⁿ◌, differ, same, ◌≤ⁿ◌, less, equal}
+use Rattle.std.specs.declared.cmp.Ordering.{Ordering}
+use Rattle.names.specs.Ordering.{Row, compare_ℕ, compare_rows, ◌<ᶻ◌, up, across, down, ◌<ᵗ◌, offset, ◌<ⁿ◌, differ, same, ◌≤ⁿ◌, less, equal}
+use Rattle.std.specs.Ordering.{is_eq}
 use Rattle.names.specs.Names.{is_name, lowered, one_below}
 use Rattle.names.proofs.Laws.{ℕ_less, ℕ_same, ℕ_more, ℕ_cases, Tri, below, level, above, tri_n, tuple_≡, pred_below, row_less, row_more, row_same, <ⁿ_trans}
 use Rattle.names.proofs.Validity.{Ordinary, Ends, final, onward as longer, Valid, valid, valid_ends, name_valid, valid_name}
@@ -274,13 +275,13 @@ onward_at s p n k e g = onward_named k (tuples_at s p n) (name_at s p n e).0 g
 pub next_is : (a b : Row) → is_next a b ≡ true → next a ≡ b
 next_is a b e = go (compare_rows (next a) b) (tri_n (next a) b) e
   where
-    go : (o : Order) → Tri ◌<ⁿ◌ (next a) b o → is_same o ≡ true → next a ≡ b
+    go : (o : Ordering) → Tri ◌<ⁿ◌ (next a) b o → is_eq o ≡ true → next a ≡ b
     go _ (below h) f = yes_no f refl
     go _ (level h) f = h
     go _ (above h) f = yes_no f refl
 
 pub is_next_lem : (a b : Row) → next a ≡ b → is_next a b ≡ true
-is_next_lem a b e = ap (λ (c : Row). is_same (compare_rows c b)) e ∙ ap is_same (row_same b)
+is_next_lem a b e = ap (λ (c : Row). is_eq (compare_rows c b)) e ∙ ap is_eq (row_same b)
 
 pub next_not : (a b : Row) → is_next a b ≡ false → ¬ (next a ≡ b)
 next_not a b f e = yes_no (is_next_lem a b e) f

@@ -12,9 +12,10 @@ use lib.Dec.{eqb}
 use lib.IntN.{pos}
 use lib.ListN.{length, take}
 use Rattle.names.specs.declared.Tuple.{Tuple}
-use Rattle.names.specs.declared.Order.{Order}
-use Rattle.names.specs.declared.Order.TheVariants.{Less, Same, More}
-use Rattle.names.specs.Ordering.{Row, compare_ℕ, compare_ℤ, then, compare_tuples, compare_rows, is_same}
+use Rattle.std.specs.declared.cmp.Ordering.{Ordering}
+use Rattle.std.specs.declared.cmp.Ordering.TheVariants.{Less, Equal, Greater}
+use Rattle.names.specs.Ordering.{Row, compare_ℕ, compare_ℤ, compare_tuples, compare_rows}
+use Rattle.std.specs.Ordering.{ordering_then, is_eq}
 use Rattle.names.proofs.Laws.{then_same, ℕ_less, ℕ_same, ℕ_more, ℕ_cases}
 use Rattle.names.specs.Names.{is_name}
 use Rattle.numbers.specs.Bytes.{Bytes, Octets, at32, at64}
@@ -30,49 +31,49 @@ use Rattle.runs.proofs.TupleFronts.{fronts_at}
 
 -- ── whether two are the same ──
 
-is_same_lem : (o : Order) → is_same o ≡ true → o ≡ Same
+is_same_lem : (o : Ordering) → is_eq o ≡ true → o ≡ Equal
 is_same_lem Less e = yes_no e refl
-is_same_lem Same e = refl
-is_same_lem More e = yes_no e refl
+is_same_lem Equal e = refl
+is_same_lem Greater e = yes_no e refl
 
-same_then : (o p : Order) → is_same (then o p) ≡ is_same o && is_same p
+same_then : (o p : Ordering) → is_eq (ordering_then o p) ≡ is_eq o && is_eq p
 same_then Less p = refl
-same_then Same p = refl
-same_then More p = refl
+same_then Equal p = refl
+same_then Greater p = refl
 
-same_numbers : (x y : ℕ) → is_same (compare_ℕ x y) ≡ eqb x y
+same_numbers : (x y : ℕ) → is_eq (compare_ℕ x y) ≡ eqb x y
 same_numbers x y = elim (ℕ_cases x y) [
-  | inl h ↦ ap is_same (ℕ_less x y h) ∙ sym (ne_eqb x y (λ e. omega arith))
+  | inl h ↦ ap is_eq (ℕ_less x y h) ∙ sym (ne_eqb x y (λ e. omega arith))
   | inr r ↦ elim r [
-    | inl e ↦ ap is_same (ℕ_same x y e) ∙ sym (eq-eqb x y e)
-    | inr h ↦ ap is_same (ℕ_more x y h) ∙ sym (ne_eqb x y (λ e. omega arith))
+    | inl e ↦ ap is_eq (ℕ_same x y e) ∙ sym (eq-eqb x y e)
+    | inr h ↦ ap is_eq (ℕ_more x y h) ∙ sym (ne_eqb x y (λ e. omega arith))
   ]
 ]
 
 -- ── in bytes ──
 
 -- the last tuples told apart
-same_first : (s : Tuple) (w : Row) (t u : Tuple) (b : Row) → same_but_last (s ∷ (w ++ (t ∷ []))) (u ∷ b) ≡ is_same (compare_tuples s u) && same_but_last (w ++ (t ∷ [])) b
+same_first : (s : Tuple) (w : Row) (t u : Tuple) (b : Row) → same_but_last (s ∷ (w ++ (t ∷ []))) (u ∷ b) ≡ is_eq (compare_tuples s u) && same_but_last (w ++ (t ∷ [])) b
 unfolding same_but_last
 same_first s [] t u b = refl
 same_first s (v ∷ w) t u b = refl
 
 by_last_lem : (w : Row) (t : Tuple) (v : Row) (u : Tuple) → length v ≡ length w
-    → same_but_last (w ++ (t ∷ [])) (v ++ (u ∷ [])) ≡ is_same (compare_rows w v) && is_same (compare_fronts t u)
+    → same_but_last (w ++ (t ∷ [])) (v ++ (u ∷ [])) ≡ is_eq (compare_rows w v) && is_eq (compare_fronts t u)
 unfolding same_but_last compare_rows
 by_last_lem [] t [] u e = refl
 by_last_lem [] t (r ∷ v) u e = absurd (omega arith)
 by_last_lem (s ∷ w) t [] u e = absurd (omega arith)
 by_last_lem (s ∷ w) t (r ∷ v) u e =
     same_first s w t r (v ++ (u ∷ []))
-    ∙ ap (λ (b : Bool). is_same (compare_tuples s r) && b) (by_last_lem w t v u (omega arith))
-    ∙ sym (and_assoc (is_same (compare_tuples s r)) (is_same (compare_rows w v)) (is_same (compare_fronts t u)))
-    ∙ ap (λ (b : Bool). b && is_same (compare_fronts t u)) (sym (same_then (compare_tuples s r) (compare_rows w v)))
+    ∙ ap (λ (b : Bool). is_eq (compare_tuples s r) && b) (by_last_lem w t v u (omega arith))
+    ∙ sym (and_assoc (is_eq (compare_tuples s r)) (is_eq (compare_rows w v)) (is_eq (compare_fronts t u)))
+    ∙ ap (λ (b : Bool). b && is_eq (compare_fronts t u)) (sym (same_then (compare_tuples s r) (compare_rows w v)))
 
 -- the n tuples from p on in a, and as many from q on in b: all before the last, and the first eight bytes of the last
 pub same_at : (a : Bytes) (p : ℕ) (b : Bytes) (q n : ℕ) → Octets a → Octets b → 1 ≤ n
     → same_but_last (tuples_at a p n) (tuples_at b q n)
-    ≡ is_same (compare_rows (tuples_at a p (n - 1)) (tuples_at b q (n - 1))) && eqb (at64 a (p + tuple_size * (n - 1))) (at64 b (q + tuple_size * (n - 1)))
+    ≡ is_eq (compare_rows (tuples_at a p (n - 1)) (tuples_at b q (n - 1))) && eqb (at64 a (p + tuple_size * (n - 1))) (at64 b (q + tuple_size * (n - 1)))
 same_at a p b q n k l h =
     let x = p + tuple_size * (n - 1) in
     let y = q + tuple_size * (n - 1) in
@@ -80,7 +81,7 @@ same_at a p b q n k l h =
     let v = tuples_at b q (n - 1) in
     (λ i. same_but_last (to_last a p n h i) (to_last b q n h i))
     ∙ by_last_lem w (tuple_at a x) v (tuple_at b y) (length_tuples_at b q (n - 1) ∙ sym (length_tuples_at a p (n - 1)))
-    ∙ ap (λ (c : Bool). is_same (compare_rows w v) && c) (sym (ap is_same (fronts_at a x b y k l)) ∙ same_numbers (at64 a x) (at64 b y))
+    ∙ ap (λ (c : Bool). is_eq (compare_rows w v) && c) (sym (ap is_eq (fronts_at a x b y k l)) ∙ same_numbers (at64 a x) (at64 b y))
 
 -- ── beside the run that begins with a ──
 
@@ -90,19 +91,19 @@ unfolding same_but_last beside_of last_offset
 beside_same [] b r e = yes_no e refl
 beside_same (t ∷ []) [] r e = yes_no e refl
 beside_same (t ∷ s ∷ a) [] r e = yes_no e refl
-beside_same (t ∷ []) (u ∷ []) r e = ap (λ (o : Order). decided o (by_offsets t.offset u.offset (is_empty r))) (is_same_lem (compare_fronts t u) e)
+beside_same (t ∷ []) (u ∷ []) r e = ap (λ (o : Ordering). decided o (by_offsets t.offset u.offset (is_empty r))) (is_same_lem (compare_fronts t u) e)
 beside_same (t ∷ []) (u ∷ v ∷ b) r e = yes_no e refl
-beside_same (t ∷ s ∷ a) (u ∷ []) r e = yes_no (and_1 (is_same (compare_tuples t u)) false e) refl
+beside_same (t ∷ s ∷ a) (u ∷ []) r e = yes_no (and_1 (is_eq (compare_tuples t u)) false e) refl
 beside_same (t ∷ s ∷ a) (u ∷ v ∷ b) r e =
     let rest = same_but_last (s ∷ a) (v ∷ b) in
-    ap (λ (o : Order). decided o (beside_of (s ∷ a) ((v ∷ b) ++ r))) (is_same_lem (compare_tuples t u) (and_0 (is_same (compare_tuples t u)) rest e))
-    ∙ beside_same (s ∷ a) (v ∷ b) r (and_1 (is_same (compare_tuples t u)) rest e)
+    ap (λ (o : Ordering). decided o (beside_of (s ∷ a) ((v ∷ b) ++ r))) (is_same_lem (compare_tuples t u) (and_0 (is_eq (compare_tuples t u)) rest e))
+    ∙ beside_same (s ∷ a) (v ∷ b) r (and_1 (is_eq (compare_tuples t u)) rest e)
 
 -- a name of at least as many tuples that does not begin so is above or below
-decides : (o : Order) (r : Stand) → is_same o ≡ false → (decided o r ≡ Above) ⊎ (decided o r ≡ Below)
+decides : (o : Ordering) (r : Stand) → is_eq o ≡ false → (decided o r ≡ Above) ⊎ (decided o r ≡ Below)
 decides Less r e = inl refl
-decides Same r e = yes_no refl e
-decides More r e = inr refl
+decides Equal r e = yes_no refl e
+decides Greater r e = inr refl
 
 pub beside_other : (a b : Row) → length a ≤ length b → same_but_last a (take (length a) b) ≡ false → (beside_of a b ≡ Above) ⊎ (beside_of a b ≡ Below)
 unfolding same_but_last beside_of
@@ -114,49 +115,49 @@ beside_other (t ∷ s ∷ a) (u ∷ b) h e = go (compare_tuples t u) e (beside_o
     rest : Bool
     rest = same_but_last (s ∷ a) (take (length (s ∷ a)) b)
 
-    go : (o : Order) → is_same o && rest ≡ false → (rest ≡ false → (beside_of (s ∷ a) b ≡ Above) ⊎ (beside_of (s ∷ a) b ≡ Below))
+    go : (o : Ordering) → is_eq o && rest ≡ false → (rest ≡ false → (beside_of (s ∷ a) b ≡ Above) ⊎ (beside_of (s ∷ a) b ≡ Below))
         → (decided o (beside_of (s ∷ a) b) ≡ Above) ⊎ (decided o (beside_of (s ∷ a) b) ≡ Below)
     go Less e f = inl refl
-    go Same e f = f e
-    go More e f = inr refl
+    go Equal e f = f e
+    go Greater e f = inr refl
 
 -- ── whether one comes k after the other ──
 
-front_then : (t u : Tuple) (z : ℕ) {n : ℕ} → u.offset ≡ pos n → is_same (compare_tuples (with_offset t (pos z)) u) ≡ is_same (compare_fronts t u) && eqb z n
+front_then : (t u : Tuple) (z : ℕ) {n : ℕ} → u.offset ≡ pos n → is_eq (compare_tuples (with_offset t (pos z)) u) ≡ is_eq (compare_fronts t u) && eqb z n
 unfolding compare_tuples
 front_then t u z {n} f =
     let p = compare_ℕ t.position u.position in
     let d = compare_ℕ t.node u.node in
     let q = compare_ℕ t.sequence u.sequence in
     let o = compare_ℤ (pos z) u.offset in
-    same_then p (then d (then q o))
-    ∙ ap (λ (b : Bool). is_same p && b) (same_then d (then q o) ∙ ap (λ (b : Bool). is_same d && b) (same_then q o))
-    ∙ ap (λ (b : Bool). is_same p && b) (sym (and_assoc (is_same d) (is_same q) (is_same o)))
-    ∙ sym (and_assoc (is_same p) (is_same d && is_same q) (is_same o))
-    ∙ (λ i. sym (same_then p (then d q) ∙ ap (λ (b : Bool). is_same p && b) (same_then d q)) i && is_same (compare_ℤ (pos z) (f i)))
-    ∙ ap (λ (b : Bool). is_same (compare_fronts t u) && b) (same_numbers z n)
+    same_then p (ordering_then d (ordering_then q o))
+    ∙ ap (λ (b : Bool). is_eq p && b) (same_then d (ordering_then q o) ∙ ap (λ (b : Bool). is_eq d && b) (same_then q o))
+    ∙ ap (λ (b : Bool). is_eq p && b) (sym (and_assoc (is_eq d) (is_eq q) (is_eq o)))
+    ∙ sym (and_assoc (is_eq p) (is_eq d && is_eq q) (is_eq o))
+    ∙ (λ i. sym (same_then p (ordering_then d q) ∙ ap (λ (b : Bool). is_eq p && b) (same_then d q)) i && is_eq (compare_ℤ (pos z) (f i)))
+    ∙ ap (λ (b : Bool). is_eq (compare_fronts t u) && b) (same_numbers z n)
 
 pub onward_exactly : (k : ℕ) (a b : Row) {m n : ℕ} → length a ≡ length b → last_offset a ≡ pos m → last_offset b ≡ pos n
-    → is_same (compare_rows (onward k a) b) ≡ same_but_last a b && eqb (m + k) n
+    → is_eq (compare_rows (onward k a) b) ≡ same_but_last a b && eqb (m + k) n
 unfolding same_but_last compare_rows last_offset
 onward_exactly k [] b l e f = absurd (let h = last_long [] e in omega arith)
 onward_exactly k (t ∷ []) [] l e f = absurd (omega arith)
 onward_exactly k (t ∷ s ∷ a) [] l e f = absurd (omega arith)
 onward_exactly k (t ∷ []) (u ∷ []) {m} {n} l e f =
-    ap (λ (r : Row). is_same (compare_rows r (u ∷ []))) (onward_last k t e)
-    ∙ ap is_same (then_same (compare_tuples (with_offset t (pos (m + k))) u))
+    ap (λ (r : Row). is_eq (compare_rows r (u ∷ []))) (onward_last k t e)
+    ∙ ap is_eq (then_same (compare_tuples (with_offset t (pos (m + k))) u))
     ∙ front_then t u (m + k) f
 onward_exactly k (t ∷ []) (u ∷ v ∷ b) l e f = absurd (omega arith)
 onward_exactly k (t ∷ s ∷ a) (u ∷ []) l e f = absurd (omega arith)
 onward_exactly k (t ∷ s ∷ a) (u ∷ v ∷ b) {m} {n} l e f =
-    ap (λ (r : Row). is_same (compare_rows r (u ∷ v ∷ b))) (onward_after k (t ∷ []) s a)
+    ap (λ (r : Row). is_eq (compare_rows r (u ∷ v ∷ b))) (onward_after k (t ∷ []) s a)
     ∙ same_then (compare_tuples t u) (compare_rows (onward k (s ∷ a)) (v ∷ b))
-    ∙ ap (λ (c : Bool). is_same (compare_tuples t u) && c) (onward_exactly k (s ∷ a) (v ∷ b) (omega arith) e f)
-    ∙ sym (and_assoc (is_same (compare_tuples t u)) (same_but_last (s ∷ a) (v ∷ b)) (eqb (m + k) n))
+    ∙ ap (λ (c : Bool). is_eq (compare_tuples t u) && c) (onward_exactly k (s ∷ a) (v ∷ b) (omega arith) e f)
+    ∙ sym (and_assoc (is_eq (compare_tuples t u)) (same_but_last (s ∷ a) (v ∷ b)) (eqb (m + k) n))
 
 -- of names in bytes
 pub is_onward_at : (k : ℕ) (a : Bytes) (p : ℕ) (b : Bytes) (q n : ℕ) → is_name (tuples_at a p n) ≡ true → is_name (tuples_at b q n) ≡ true
-    → is_same (compare_rows (onward k (tuples_at a p n)) (tuples_at b q n))
+    → is_eq (compare_rows (onward k (tuples_at a p n)) (tuples_at b q n))
     ≡ same_but_last (tuples_at a p n) (tuples_at b q n) && eqb (at32 a (p + (tuple_size * n - 4)) + k) (at32 b (q + (tuple_size * n - 4)))
 is_onward_at k a p b q n e f =
     let h = name_count a p n e in

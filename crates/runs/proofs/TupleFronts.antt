@@ -5,8 +5,9 @@ use Prim.Native.Nat.{ℕ}
 use native.Mathlib.Omega.{arith}
 use lib.IntN.{ℤ, pos}
 use Rattle.names.specs.declared.Tuple.{Tuple}
-use Rattle.names.specs.declared.Order.{Order}
-use Rattle.names.specs.Ordering.{compare_ℕ, then, compare_tuples, ◌<ᵗ◌, position, node, sequence, offset}
+use Rattle.std.specs.declared.cmp.Ordering.{Ordering}
+use Rattle.names.specs.Ordering.{compare_ℕ, compare_tuples, ◌<ᵗ◌, position, node, sequence, offset}
+use Rattle.std.specs.Ordering.{ordering_then}
 use Rattle.names.proofs.Laws.{then_same, Tri, tri_t, <ᶻ_irrefl}
 use Rattle.numbers.specs.Bytes.{Bytes, Octets, at64}
 use Rattle.slots.specs.Tuples.{tuple_at}
@@ -21,7 +22,7 @@ front_of t = with_offset t (pos 0)
 same_offsets : (s t : Tuple) → compare_tuples (front_of s) (front_of t) ≡ compare_fronts s t
 unfolding compare_tuples
 same_offsets s t =
-    ap (λ (o : Order). then (compare_ℕ s.position t.position) (then (compare_ℕ s.node t.node) o)) (then_same (compare_ℕ s.sequence t.sequence))
+    ap (λ (o : Ordering). ordering_then (compare_ℕ s.position t.position) (ordering_then (compare_ℕ s.node t.node) o)) (then_same (compare_ℕ s.sequence t.sequence))
 
 pub fronts : (s t : Tuple) → Tri ◌<ᵗ◌ (front_of s) (front_of t) (compare_fronts s t)
 fronts s t = subst (Tri ◌<ᵗ◌ (front_of s) (front_of t)) (same_offsets s t) (tri_t (front_of s) (front_of t))

@@ -2,21 +2,22 @@
 -- name a, whatever its length: the names `onward k a`. specs/Laws.antt has what each answer says.
 use Rattle.std.specs.Prelude.{◌+◌, ◌-◌, [], ◌∷◌, Bool, false, cond, ◌&&◌, length, eqb, ltb, ℤ, pos, negsuc}
 use Rattle.names.specs.declared.Tuple.{Tuple}
-use Rattle.names.specs.declared.Order.{Order}
-use Rattle.names.specs.declared.Order.TheVariants.{Less, Same, More}
-use Rattle.names.specs.Ordering.{Row, compare_ℕ, then, compare_tuples, is_same}
+use Rattle.std.specs.declared.cmp.Ordering.{Ordering}
+use Rattle.std.specs.declared.cmp.Ordering.TheVariants.{Less, Equal, Greater}
+use Rattle.names.specs.Ordering.{Row, compare_ℕ, compare_tuples}
+use Rattle.std.specs.Ordering.{ordering_then, is_eq}
 use Rattle.runs.specs.declared.Stand.{Stand}
 use Rattle.runs.specs.declared.Stand.TheVariants.{Below, Before, At, Beyond, Above}
 
 -- by the first tuple that differs, where one does, else as said
-abbrev pub decided : Order → Stand → Stand
+abbrev pub decided : Ordering → Stand → Stand
 decided Less r = Above
-decided Same r = r
-decided More r = Below
+decided Equal r = r
+decided Greater r = Below
 
 -- "Tuples compare by position, node, sequence, offset": all but the offset
-abbrev pub compare_fronts : Tuple → Tuple → Order
-compare_fronts s t = then (compare_ℕ s.position t.position) (then (compare_ℕ s.node t.node) (compare_ℕ s.sequence t.sequence))
+abbrev pub compare_fronts : Tuple → Tuple → Ordering
+compare_fronts s t = ordering_then (compare_ℕ s.position t.position) (ordering_then (compare_ℕ s.node t.node) (compare_ℕ s.sequence t.sequence))
 
 -- by the offset x of the run's first name, which is at least 0, the other's y, and whether the other name ends there
 abbrev pub by_offsets : ℤ → ℤ → Bool → Stand
@@ -37,6 +38,6 @@ beside_of (t ∷ s ∷ a) (u ∷ b) = decided (compare_tuples t u) (beside_of (s
 unfoldable pub same_but_last : Row → Row → Bool
 same_but_last [] b = false
 same_but_last (t ∷ a) [] = false
-same_but_last (t ∷ []) (u ∷ []) = is_same (compare_fronts t u)
+same_but_last (t ∷ []) (u ∷ []) = is_eq (compare_fronts t u)
 same_but_last (t ∷ []) (u ∷ v ∷ b) = false
-same_but_last (t ∷ s ∷ a) (u ∷ b) = is_same (compare_tuples t u) && same_but_last (s ∷ a) b
+same_but_last (t ∷ s ∷ a) (u ∷ b) = is_eq (compare_tuples t u) && same_but_last (s ∷ a) b

@@ -3,7 +3,8 @@
 use Rattle.std.specs.Prelude.{ℕ, zero, suc, [], ◌∷◌, Bool}
 use Rattle.std.proofs.Math.IntN.{suc_ℤ}
 use Rattle.names.specs.declared.Tuple.{Tuple}
-use Rattle.names.specs.Ordering.{Row, compare_rows, is_same}
+use Rattle.names.specs.Ordering.{Row, compare_rows}
+use Rattle.std.specs.Ordering.{is_eq}
 
 abbrev pub raised : Tuple → Tuple
 raised t = record { position = t.position; node = t.node; sequence = t.sequence; offset = suc_ℤ t.offset }
@@ -21,4 +22,4 @@ onward (suc k) a = onward k (next a)
 
 -- b comes next after a
 abbrev pub is_next : Row → Row → Bool
-is_next a b = is_same (compare_rows (next a) b)
+is_next a b = is_eq (compare_rows (next a) b)

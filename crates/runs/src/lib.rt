@@ -4,7 +4,8 @@
 #![tactic(auto)]
 
 ghost use Rattle.std.specs.Prelude.{◌≡◌, true, ℕ, ◌+◌, ◌*◌, ◌-◌, ◌≤◌, ◌<◌, length, take, drop, pos};
-ghost use Rattle.names.specs.Ordering.{compare_rows, is_same};
+ghost use Rattle.names.specs.Ordering.{compare_rows};
+ghost use Rattle.std.specs.Ordering.{is_eq};
 ghost use Rattle.names.specs.Names.{is_name, limit};
 ghost use Rattle.numbers.specs.Bytes.{at32, put};
 ghost use Rattle.slots.specs.Tuples.{tuple_at, tuples_at, row_at, Within, Lies, tuple_size, row_bytes};
@@ -12,8 +13,9 @@ ghost use Rattle.slots.specs.Slots.{slot_size, slot_bytes};
 ghost use Rattle.runs.specs.Runs.{onward};
 ghost use Rattle.runs.specs.Beside.{decided, compare_fronts, by_offsets, beside_of, same_but_last};
 
-use names::{LIMIT, Order};
+use names::LIMIT;
 use slots::{HEAD, Span, TUPLE};
+use std::cmp::Ordering;
 
 // Where a name stands beside a run.
 #[derive(Clone, Copy)]
@@ -90,21 +92,21 @@ pub fn beside(a: &[u8], x: Span, b: &[u8], y: Span) -> Stand
     let last = x.count - 1;
     if y.count <= last {
         return match slots::compare_rows(a, x.at, last, b, y.at, y.count) {
-            Order::Less => Stand::Above,
-            Order::Same => Stand::Below,
-            Order::More => Stand::Below,
+            Ordering::Less => Stand::Above,
+            Ordering::Equal => Stand::Below,
+            Ordering::Greater => Stand::Below,
         };
     }
     match slots::compare_rows(a, x.at, last, b, y.at, last) {
-        Order::Less => Stand::Above,
-        Order::Same => beside_tuples(
+        Ordering::Less => Stand::Above,
+        Ordering::Equal => beside_tuples(
             a,
             x.at + TUPLE * last,
             b,
             y.at + TUPLE * last,
             y.count == x.count,
         ),
-        Order::More => Stand::Below,
+        Ordering::Greater => Stand::Below,
     }
 }
 
@@ -117,14 +119,14 @@ pub fn same_but_last(a: &[u8], p: usize, b: &[u8], q: usize, n: usize) -> bool
     if numbers::read_u64(a, p + TUPLE * before) != numbers::read_u64(b, q + TUPLE * before) {
         return false;
     }
-    names::is_same(slots::compare_rows(a, p, before, b, q, before))
+    slots::compare_rows(a, p, before, b, q, before).is_eq()
 }
 
 // Of two names of n tuples the one at q comes k after the one at p. What differs most often is asked first.
 pub fn is_onward(a: &[u8], p: usize, b: &[u8], q: usize, n: usize, k: u32) -> bool
     requires n_in_bounds { (p + tuple_size * n ≤ length a.now) × (q + tuple_size * n ≤ length b.now) × (k < 2147483648) }
     requires n_value { (is_name (tuples_at a.now p n) ≡ true) × (is_name (tuples_at b.now q n) ≡ true) }
-    ensures { result ≡ is_same (compare_rows (onward k (tuples_at a.now p n)) (tuples_at b.now q n)) }
+    ensures { result ≡ is_eq (compare_rows (onward k (tuples_at a.now p n)) (tuples_at b.now q n)) }
 {
     let last = TUPLE * n - OFFSET_SIZE;
     if numbers::read_u32(b, q + last) != numbers::read_u32(a, p + last) + k {

@@ -1,7 +1,8 @@
 -- What a look at slots tells (`tells_broken`, `tells_falling`, `tells_rising`), and the layout of a slot by the answers of the tests in their
 -- order (`bad_head`, `kept_by`). Assumes nothing.
 use Rattle.std.proofs.Common.{◌≡◌, ℕ, ◌+◌, ◌*◌, ◌≤◌, min, Bool, true, false, ◌&&◌, eqb, leb, length, take, drop, sym, refl, ap, ◌∙◌, arith, eq-eqb, leb-true}
-use Rattle.names.specs.Ordering.{Row, compare_rows, is_less}
+use Rattle.names.specs.Ordering.{Row, compare_rows}
+use Rattle.std.specs.Ordering.{is_lt}
 use Rattle.names.specs.Names.{within, is_name}
 use Rattle.numbers.specs.Bytes.{Bytes, all_zero}
 use Rattle.numbers.proofs.Bools.{and_0, and_1}
@@ -45,7 +46,7 @@ module _ (room : ℕ) (s : Bytes) where
       and_1 front n (and_0 (front && n) (all_zero (drop (head_size + tuple_size * depth_of s) s)) e)
 
   pub broken : (a : Row) → false ≡ keeps_over room s → Broken ≡ seen_after room a s
-  broken a e = ap (λ (k : Bool). seen k (is_less (compare_rows a (name_over room s)))) e
+  broken a e = ap (λ (k : Bool). seen k (is_lt (compare_rows a (name_over room s)))) e
 
   module _ (l : length s ≡ size_over room) where
     -- the answers h for the head, b for the name and z for the rest

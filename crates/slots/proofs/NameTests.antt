@@ -3,7 +3,7 @@
 use Rattle.std.proofs.Common.{◌≡◌, ℕ, zero, suc, ◌+◌, ◌-◌, ◌*◌, ◌≤◌, min, Bool, true, false, ◌&&◌, ◌||◌, ltb, [], ◌∷◌, take, pos, sym, refl, ap, ◌∙◌, le_of_suc-le-suc, not-suc-le-zero, arith, lt-ltb}
 use mathlib.Core.Bool.{and_assoc, and-true}
 use Rattle.names.specs.Names.{limit, ordinary, ordinary_from, marker, ends_well, is_name}
-use Rattle.numbers.specs.Lists.{every}
+use Rattle.std.specs.List.{list_all}
 use Rattle.numbers.proofs.Every.{every_append}
 use Rattle.numbers.proofs.Bools.{and_0, and_1}
 use Rattle.numbers.proofs.Lists.{take_min}
@@ -34,14 +34,14 @@ fails true f e = e ∙ f refl
 fails false f e = refl
 
 module _ (s : Bytes) where
-  ends_by : (p k : ℕ) → ends_well (tuples_at s p (suc k)) ≡ every inner (tuples_at s p k) && ordinary_from (pos 0) (tuple_at s (p + tuple_size * k))
+  ends_by : (p k : ℕ) → ends_well (tuples_at s p (suc k)) ≡ list_all inner (tuples_at s p k) && ordinary_from (pos 0) (tuple_at s (p + tuple_size * k))
   unfolding ends_well
   ends_by p zero = ap (λ (q : ℕ). ordinary_from (pos 0) (tuple_at s q)) (omega arith)
   ends_by p (suc k) =
       let e : p + tuple_size + tuple_size * k ≡ p + tuple_size * suc k = omega arith in
       ap (λ (b : Bool). inner (tuple_at s p) && b) (ends_by (p + tuple_size) k)
-      ∙ sym (and_assoc (inner (tuple_at s p)) (every inner (tuples_at s (p + tuple_size) k)) (ordinary_from (pos 0) (tuple_at s (p + tuple_size + tuple_size * k))))
-      ∙ ap (λ (q : ℕ). every inner (tuples_at s p (suc k)) && ordinary_from (pos 0) (tuple_at s q)) e
+      ∙ sym (and_assoc (inner (tuple_at s p)) (list_all inner (tuples_at s (p + tuple_size) k)) (ordinary_from (pos 0) (tuple_at s (p + tuple_size + tuple_size * k))))
+      ∙ ap (λ (q : ℕ). list_all inner (tuples_at s p (suc k)) && ordinary_from (pos 0) (tuple_at s q)) e
 
   -- a tuple that may be the last is ordinary
   one_tuple : (p : ℕ) → ordinary (tuple_at s p) && ordinary_from (pos 0) (tuple_at s p) ≡ ordinary_from (pos 0) (tuple_at s p)
@@ -55,7 +55,7 @@ module _ (s : Bytes) where
   name_of_lem p (suc k) =
       let e : p + tuple_size + tuple_size * k ≡ p + tuple_size * suc k = omega arith in
       let t = tuple_at s p in
-      let a = every inner (tuples_at s (p + tuple_size) k) in
+      let a = list_all inner (tuples_at s (p + tuple_size) k) in
       ap (λ (b : Bool). ordinary t && (inner t && b)) (ends_by (p + tuple_size) k)
       ∙ twice (ordinary t) (marker t) a (ordinary_from (pos 0) (tuple_at s (p + tuple_size + tuple_size * k)))
       ∙ ap (λ (q : ℕ). (ordinary t && a) && ordinary_from (pos 0) (tuple_at s q)) e
@@ -68,12 +68,12 @@ module _ (s : Bytes) where
 
   -- ── tuples that are known to begin a name ──
 
-  all_fewer : (p i n : ℕ) → i ≤ n → every inner (tuples_at s p n) ≡ true → every inner (tuples_at s p i) ≡ true
+  all_fewer : (p i n : ℕ) → i ≤ n → list_all inner (tuples_at s p n) ≡ true → list_all inner (tuples_at s p i) ≡ true
   all_fewer p zero n h e = refl
   all_fewer p (suc i) zero h e = absurd (not-suc-le-zero h)
   all_fewer p (suc i) (suc n) h e =
       let a = inner (tuple_at s p) in
-      let b = every inner (tuples_at s (p + tuple_size) n) in
+      let b = list_all inner (tuples_at s (p + tuple_size) n) in
       λ j. and_0 a b e j && all_fewer (p + tuple_size) i n (le_of_suc-le-suc h) (and_1 a b e) j
 
   pub leads_fewer : (p i n : ℕ) → i ≤ n → leads (tuples_at s p n) ≡ true → leads (tuples_at s p i) ≡ true
@@ -81,7 +81,7 @@ module _ (s : Bytes) where
   leads_fewer p (suc i) zero h e = absurd (not-suc-le-zero h)
   leads_fewer p (suc i) (suc n) h e =
       let a = ordinary (tuple_at s p) in
-      let b = every inner (tuples_at s (p + tuple_size) n) in
+      let b = list_all inner (tuples_at s (p + tuple_size) n) in
       λ j. and_0 a b e j && all_fewer (p + tuple_size) i n (le_of_suc-le-suc h) (and_1 a b e) j
 
   -- the answer b for the tuple after i that begin a name: ordinary, or a marker that is not the first
@@ -96,7 +96,7 @@ module _ (s : Bytes) where
       ∙ ap (λ (c : Bool). ordinary t || (c && marker t)) (lt-ltb 0 (suc i) (omega arith))
       ∙ sym (and-true (inner t))
       ∙ (λ j. sym h j && (inner t && true))
-      ∙ and_assoc o (every inner a) (inner t && true)
+      ∙ and_assoc o (list_all inner a) (inner t && true)
       ∙ ap (λ (c : Bool). o && c) (sym (every_append inner a (t ∷ [])))
       ∙ ap leads (more_tuples_at s p (suc i))
 
@@ -105,7 +105,7 @@ module _ (s : Bytes) where
   leads_not p i n h e = fails (leads (tuples_at s p n)) (λ k. leads_fewer p i n h k) e
 
   -- a name is followed by names that begin as it does
-  ends_inner : (p n : ℕ) → ends_well (tuples_at s p n) ≡ true → every inner (tuples_at s p n) ≡ true
+  ends_inner : (p n : ℕ) → ends_well (tuples_at s p n) ≡ true → list_all inner (tuples_at s p n) ≡ true
   unfolding ends_well
   ends_inner p zero e = refl
   ends_inner p (suc zero) e =
@@ -123,7 +123,7 @@ module _ (s : Bytes) where
       let a = ordinary (tuple_at s p) in
       let b = ends_well (tuples_at s p (suc n)) in
       let c = ends_inner p (suc n) (and_1 a b e) in
-      λ j. and_0 a b e j && and_1 (inner (tuple_at s p)) (every inner (tuples_at s (p + tuple_size) n)) c j
+      λ j. and_0 a b e j && and_1 (inner (tuple_at s p)) (list_all inner (tuples_at s (p + tuple_size) n)) c j
 
 -- ── the name of a slot with room for so many tuples is read in one piece ──
 

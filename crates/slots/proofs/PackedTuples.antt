@@ -5,9 +5,10 @@
 use Rattle.std.proofs.Common.{◌≡◌, ℕ, ◌+◌, ◌-◌, ◌*◌, ◌%◌, ◌<◌, ◌≤◌, true, false, [], ◌∷◌, ◌++◌, length, get_or, drop, sym, refl, ap, ◌∙◌, arith, take_all}
 use native.Mathlib.Decide.{dec_le, dec_lt}
 use Rattle.names.specs.declared.Tuple.{Tuple}
-use Rattle.names.specs.declared.Order.{Order}
-use Rattle.names.specs.declared.Order.TheVariants.{Less, Same, More}
-use Rattle.names.specs.Ordering.{Row, compare_ℕ, compare_ℤ, then, compare_tuples, compare_rows, is_less, is_same}
+use Rattle.std.specs.declared.cmp.Ordering.{Ordering}
+use Rattle.std.specs.declared.cmp.Ordering.TheVariants.{Less, Equal, Greater}
+use Rattle.names.specs.Ordering.{Row, compare_ℕ, compare_ℤ, compare_tuples, compare_rows}
+use Rattle.std.specs.Ordering.{ordering_then, is_lt, is_eq}
 use Rattle.names.specs.Names.{m}
 use Rattle.names.proofs.Laws.{ℕ_less, ℕ_more, tuple_same, same_tuple}
 use Rattle.names.proofs.Digits.{compare_by, digits}
@@ -60,10 +61,10 @@ signed_by a b p q = elim (dec_lt a 2147483648) [
 
 -- ── tuples ──
 
-then_then : (a b c : Order) → then (then a b) c ≡ then a (then b c)
+then_then : (a b c : Ordering) → ordering_then (ordering_then a b) c ≡ ordering_then a (ordering_then b c)
 then_then Less b c = refl
-then_then Same b c = refl
-then_then More b c = refl
+then_then Equal b c = refl
+then_then Greater b c = refl
 
 -- a tuple as the code has it, o the bits of its offset
 pub record Held (t : Tuple) (o : ℕ) : Type 0 where
@@ -72,7 +73,7 @@ pub record Held (t : Tuple) (o : ℕ) : Type 0 where
   pub bits : o < 4294967296
   pub offset : t.offset ≡ signed o
 
-pub packed : (s t : Tuple) (o o' : ℕ) → Held s o → Held t o' → then (compare_ℕ (front s) (front t)) (compare_ℕ (raised o) (raised o')) ≡ compare_tuples s t
+pub packed : (s t : Tuple) (o o' : ℕ) → Held s o → Held t o' → ordering_then (compare_ℕ (front s) (front t)) (compare_ℕ (raised o) (raised o')) ≡ compare_tuples s t
 unfolding compare_tuples
 packed s t o o' h k =
     let P = compare_ℕ s.position t.position in
@@ -81,11 +82,11 @@ packed s t o o' h k =
     let R = compare_ℕ (raised o) (raised o') in
     let z : compare_ℤ s.offset t.offset ≡ R = (λ i. compare_ℤ (h.offset i) (k.offset i)) ∙ signed_by o o' h.bits k.bits in
     sym
-    ((λ i. then P (then N (then Q (z i))))
-    ∙ sym (then_then P N (then Q R))
-    ∙ sym (then_then (then P N) Q R)
-    ∙ (λ i. then (then (sym (digits 65536 s.position s.node t.position t.node h.node k.node) i) Q) R)
-    ∙ (λ i. then (sym (digits 4294967296 (s.position * 65536 + s.node) s.sequence (t.position * 65536 + t.node) t.sequence h.sequence k.sequence) i) R))
+    ((λ i. ordering_then P (ordering_then N (ordering_then Q (z i))))
+    ∙ sym (then_then P N (ordering_then Q R))
+    ∙ sym (then_then (ordering_then P N) Q R)
+    ∙ (λ i. ordering_then (ordering_then (sym (digits 65536 s.position s.node t.position t.node h.node k.node) i) Q) R)
+    ∙ (λ i. ordering_then (sym (digits 4294967296 (s.position * 65536 + s.node) s.sequence (t.position * 65536 + t.node) t.sequence h.sequence k.sequence) i) R))
 
 pub held_at : (s : Bytes) (p : ℕ) → Octets s → Held (tuple_at s p) (at32 s (p + 8))
 unfolding tuple_at
@@ -101,14 +102,14 @@ front_at s p = refl
 -- ── rows where they stand ──
 
 -- of the n tuples from p on in a and the k from q on in b, those from number i on
-abbrev pub left_from : Bytes → ℕ → ℕ → Bytes → ℕ → ℕ → ℕ → Order
+abbrev pub left_from : Bytes → ℕ → ℕ → Bytes → ℕ → ℕ → ℕ → Ordering
 left_from a p n b q k i = left (tuples_at a p n) (tuples_at b q k) n k i
 
 -- a comparison that is not Same decides
-decides : (o r : Order) → is_same o ≡ false → is_less o ≡ is_less (then o r)
+decides : (o r : Ordering) → is_eq o ≡ false → is_lt o ≡ is_lt (ordering_then o r)
 decides Less r e = refl
-decides Same r e = absurd (let z : ◌≡◌ {A = ℕ} 0 1 = cc in omega arith)
-decides More r e = refl
+decides Equal r e = absurd (let z : ◌≡◌ {A = ℕ} 0 1 = cc in omega arith)
+decides Greater r e = refl
 
 module _ (a : Bytes) (p n : ℕ) (b : Bytes) (q k : ℕ) where
   long : n ≤ length (tuples_at a p n)
@@ -123,51 +124,51 @@ module _ (a : Bytes) (p n : ℕ) (b : Bytes) (q k : ℕ) where
   pub left_all : left_from a p n b q k 0 ≡ compare_rows (tuples_at a p n) (tuples_at b q k)
   left_all = left_rows 0
 
-  pub left_same : (i : ℕ) → n ≤ i → k ≤ i → Same ≡ left_from a p n b q k i
+  pub left_same : (i : ℕ) → n ≤ i → k ≤ i → Equal ≡ left_from a p n b q k i
   left_same i h g = both_ended (tuples_at a p n) (tuples_at b q k) n k i m long long' h g
 
   pub left_less : (i : ℕ) → n ≤ i → i < k → Less ≡ left_from a p n b q k i
   left_less i h g = first_ended (tuples_at a p n) (tuples_at b q k) n k i m long long' h g
 
-  pub left_more : (i : ℕ) → i < n → k ≤ i → More ≡ left_from a p n b q k i
+  pub left_more : (i : ℕ) → i < n → k ≤ i → Greater ≡ left_from a p n b q k i
   left_more i h g = second_ended (tuples_at a p n) (tuples_at b q k) n k i m long long' h g
 
   -- at a turn: the tuples at i compare as o
-  pub left_at : (i : ℕ) {o r : Order} → r ≡ compare_tuples (tuple_at a (p + tuple_size * i)) (tuple_at b (q + tuple_size * i)) → r ≡ o → i < n → i < k →
-      then o (left_from a p n b q k (i + 1)) ≡ left_from a p n b q k i
+  pub left_at : (i : ℕ) {o r : Ordering} → r ≡ compare_tuples (tuple_at a (p + tuple_size * i)) (tuple_at b (q + tuple_size * i)) → r ≡ o → i < n → i < k →
+      ordering_then o (left_from a p n b q k (i + 1)) ≡ left_from a p n b q k i
   left_at i e f h g =
       let s : compare_tuples (tuple_at a (p + tuple_size * i)) (tuple_at b (q + tuple_size * i)) ≡ compare_tuples (get_or (tuples_at a p n) i m) (get_or (tuples_at b q k) i m) =
       λ j. compare_tuples (sym (get_or_tuples_at a p n i h) j) (sym (get_or_tuples_at b q k i g) j) in
       turn (tuples_at a p n) (tuples_at b q k) n k i m long long' (sym f ∙ e ∙ s) h g
 
   -- the second has ended
-  pub left_not : (i : ℕ) → k ≤ i → false ≡ is_less (left_from a p n b q k i)
-  left_not i g = elim (dec_le n i) [ yes h ↦ ap is_less (left_same i h g) | no h ↦ ap is_less (left_more i (omega arith) g) ]
+  pub left_not : (i : ℕ) → k ≤ i → false ≡ is_lt (left_from a p n b q k i)
+  left_not i g = elim (dec_le n i) [ yes h ↦ ap is_lt (left_same i h g) | no h ↦ ap is_lt (left_more i (omega arith) g) ]
 
   -- the tuples at i differ
   pub left_differ : (i : ℕ) → i < n → i < k →
-      is_same (compare_tuples (tuple_at a (p + tuple_size * i)) (tuple_at b (q + tuple_size * i))) ≡ false →
-      is_less (compare_tuples (tuple_at a (p + tuple_size * i)) (tuple_at b (q + tuple_size * i))) ≡ is_less (left_from a p n b q k i)
+      is_eq (compare_tuples (tuple_at a (p + tuple_size * i)) (tuple_at b (q + tuple_size * i))) ≡ false →
+      is_lt (compare_tuples (tuple_at a (p + tuple_size * i)) (tuple_at b (q + tuple_size * i))) ≡ is_lt (left_from a p n b q k i)
   left_differ i h g e =
       decides (compare_tuples (tuple_at a (p + tuple_size * i)) (tuple_at b (q + tuple_size * i))) (left_from a p n b q k (i + 1)) e
-      ∙ ap is_less (left_at i refl refl h g)
+      ∙ ap is_lt (left_at i refl refl h g)
 
 -- ── rows that begin alike ──
 
-is_same_lem : (o : Order) → is_same o ≡ true → o ≡ Same
+is_same_lem : (o : Ordering) → is_eq o ≡ true → o ≡ Equal
 is_same_lem Less e = absurd (let z : ◌≡◌ {A = ℕ} 0 1 = cc in omega arith)
-is_same_lem Same e = refl
-is_same_lem More e = absurd (let z : ◌≡◌ {A = ℕ} 0 1 = cc in omega arith)
+is_same_lem Equal e = refl
+is_same_lem Greater e = absurd (let z : ◌≡◌ {A = ℕ} 0 1 = cc in omega arith)
 
 -- what follows equal tuples decides
 after_alike : (x a b : Row) → compare_rows (x ++ a) (x ++ b) ≡ compare_rows a b
 unfolding compare_rows
 after_alike [] a b = refl
-after_alike (t ∷ x) a b = ap (λ (o : Order). then o (compare_rows (x ++ a) (x ++ b))) (tuple_same t) ∙ after_alike x a b
+after_alike (t ∷ x) a b = ap (λ (o : Ordering). ordering_then o (compare_rows (x ++ a) (x ++ b))) (tuple_same t) ∙ after_alike x a b
 
 module _ (a : Bytes) (p : ℕ) (b : Bytes) (q : ℕ) (i : ℕ) (e : tuples_at a p i ≡ tuples_at b q i) where
   -- one more tuple is the same
-  pub alike_more : is_same (compare_tuples (tuple_at a (p + tuple_size * i)) (tuple_at b (q + tuple_size * i))) ≡ true → tuples_at a p (i + 1) ≡ tuples_at b q (i + 1)
+  pub alike_more : is_eq (compare_tuples (tuple_at a (p + tuple_size * i)) (tuple_at b (q + tuple_size * i))) ≡ true → tuples_at a p (i + 1) ≡ tuples_at b q (i + 1)
   alike_more f =
       let t = tuple_at a (p + tuple_size * i) in
       let u = tuple_at b (q + tuple_size * i) in
@@ -193,8 +194,8 @@ module _ (a : Bytes) (p : ℕ) (b : Bytes) (q : ℕ) (i : ℕ) (e : tuples_at a 
 -- ── a row and one tuple ──
 
 -- the first tuple compares with t as o
-pub first_tuple : (a : Bytes) (p n : ℕ) (t : Tuple) {o r : Order} → 1 ≤ n → r ≡ compare_tuples (tuple_at a p) t → r ≡ o →
-    then o (compare_rows (drop 1 (tuples_at a p n)) []) ≡ compare_rows (tuples_at a p n) (t ∷ [])
+pub first_tuple : (a : Bytes) (p n : ℕ) (t : Tuple) {o r : Ordering} → 1 ≤ n → r ≡ compare_tuples (tuple_at a p) t → r ≡ o →
+    ordering_then o (compare_rows (drop 1 (tuples_at a p n)) []) ≡ compare_rows (tuples_at a p n) (t ∷ [])
 first_tuple a p n t h e f =
     let z : p + tuple_size * 0 ≡ p = omega arith in
     let g : get_or (tuples_at a p n) 0 m ≡ tuple_at a p = get_or_tuples_at a p n 0 h ∙ ap (tuple_at a) z in

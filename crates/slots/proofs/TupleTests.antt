@@ -4,9 +4,10 @@ use mathlib.Core.Bool.{and-true, and-false, and_assoc}
 use native.Mathlib.Decide.{dec_lt}
 use borrow.Author.Tests.{lt-leb}
 use Rattle.names.specs.declared.Tuple.{Tuple}
-use Rattle.names.specs.declared.Order.{Order}
-use Rattle.names.specs.declared.Order.TheVariants.{Less, Same, More}
-use Rattle.names.specs.Ordering.{compare_ℕ, then, compare_tuples, is_same}
+use Rattle.std.specs.declared.cmp.Ordering.{Ordering}
+use Rattle.std.specs.declared.cmp.Ordering.TheVariants.{Less, Equal, Greater}
+use Rattle.names.specs.Ordering.{compare_ℕ, compare_tuples}
+use Rattle.std.specs.Ordering.{ordering_then, is_eq}
 use Rattle.names.specs.Names.{within_ℤ, ordinary_from, ordinary, m, M, marker}
 use Rattle.names.proofs.Laws.{ℕ_less, ℕ_same, ℕ_more, ℕ_cases}
 use Rattle.numbers.proofs.Bools.{leb_by}
@@ -95,18 +96,18 @@ last_by s p =
 
 -- ── markers ──
 
-same_then : (a b : Order) → is_same (then a b) ≡ is_same a && is_same b
+same_then : (a b : Ordering) → is_eq (ordering_then a b) ≡ is_eq a && is_eq b
 same_then Less b = refl
-same_then Same b = refl
-same_then More b = refl
+same_then Equal b = refl
+same_then Greater b = refl
 
 -- numbers x and y that are equal exactly where u and v are
-same_as : (x y u v : ℕ) → (u ≡ v → x ≡ y) → (x ≡ y → u ≡ v) → is_same (compare_ℕ x y) ≡ eqb u v
+same_as : (x y u v : ℕ) → (u ≡ v → x ≡ y) → (x ≡ y → u ≡ v) → is_eq (compare_ℕ x y) ≡ eqb u v
 same_as x y u v e f = elim (ℕ_cases x y) [
-  | inl h ↦ ap is_same (ℕ_less x y h) ∙ sym (ne_eqb u v (λ q. let w = e q in omega arith))
+  | inl h ↦ ap is_eq (ℕ_less x y h) ∙ sym (ne_eqb u v (λ q. let w = e q in omega arith))
   | inr r ↦ elim r [
-    | inl h ↦ ap is_same (ℕ_same x y h) ∙ sym (eq-eqb u v (f h))
-    | inr h ↦ ap is_same (ℕ_more x y h) ∙ sym (ne_eqb u v (λ q. let w = e q in omega arith))
+    | inl h ↦ ap is_eq (ℕ_same x y h) ∙ sym (eq-eqb u v (f h))
+    | inr h ↦ ap is_eq (ℕ_more x y h) ∙ sym (ne_eqb u v (λ q. let w = e q in omega arith))
   ]
 ]
 
@@ -114,12 +115,12 @@ raised_same : (o w : ℕ) → o < 4294967296 → w < 4294967296 → raised o ≡
 raised_same o w h k e = omega arith
 
 -- the two pieces that a tuple is read in, against those of t, whose offset has the bits o
-mark : (s : Bytes) (p : ℕ) → Octets s → (t : Tuple) (o : ℕ) → Held t o → is_same (compare_tuples (tuple_at s p) t) ≡ eqb (at64 s p) (front t) && eqb (at32 s (p + 8)) o
+mark : (s : Bytes) (p : ℕ) → Octets s → (t : Tuple) (o : ℕ) → Held t o → is_eq (compare_tuples (tuple_at s p) t) ≡ eqb (at64 s p) (front t) && eqb (at32 s (p + 8)) o
 unfolding tuple_at
 mark s p k t o h =
     let x = at64 s p in
     let u = at32 s (p + 8) in
-    ap is_same (sym (packed (tuple_at s p) t u o (held_at s p k) h))
+    ap is_eq (sym (packed (tuple_at s p) t u o (held_at s p k) h))
     ∙ same_then (compare_ℕ x (front t)) (compare_ℕ (raised u) (raised o))
     ∙ (λ i. same_as x (front t) x (front t) (λ e. e) (λ e. e) i && same_as (raised u) (raised o) u o (ap raised) (raised_same u o (fits32 s (p + 8) k) h.bits) i)
 

@@ -4,14 +4,16 @@
 #![tactic(auto)]
 
 ghost use Rattle.std.specs.Prelude.{◌≡◌, ◌+◌, ◌-◌, ◌*◌, ◌%◌, ◌<◌, ◌≤◌, min, true, false, ◌&&◌, [], ◌∷◌, ◌++◌, length, take, drop, replicate, pos, negsuc, ◌==◌};
-ghost use Rattle.names.specs.Ordering.{compare_ℕ, then, compare_tuples, compare_rows, is_less, is_same};
+ghost use Rattle.names.specs.Ordering.{compare_ℕ, compare_tuples, compare_rows};
+ghost use Rattle.std.specs.Ordering.{ordering_then, is_lt, is_eq};
 ghost use Rattle.names.specs.Names.{limit, row_of, ordinary, ordinary_from, marker, is_name, within_ℤ};
 ghost use Rattle.numbers.specs.Bytes.{signed, all_zero, bytes32, put};
 ghost use Rattle.slots.specs.Tuples.{tuple_at, tuples_at, row_at, Lies, tuple_size, tuple_bytes, row_bytes};
 ghost use Rattle.slots.specs.Slots.{head_size, size_over, name_over, slot_size, depth_of, line_of, slot_bytes};
 ghost use Rattle.slots.specs.Looks.{leads, head_over, seen_after};
 
-use names::{LIMIT, Name, Order, Tuple};
+use names::{LIMIT, Name, Tuple};
+use std::cmp::Ordering;
 
 // The bytes of a tuple; of depth, three zeros and line number; and of a slot.
 pub const TUPLE: usize = 12;
@@ -146,20 +148,20 @@ fn raised(o: u32) -> u32
 
 // Two tuples, each by its first eight bytes and its offset raised. Equal ones are told first: the compiler compares the bytes as they
 // stand, and swaps only those of two that differ.
-fn compare_parts(x: u64, u: u32, y: u64, v: u32) -> Order
-    ensures { result ≡ then (compare_ℕ x y) (compare_ℕ u v) }
+fn compare_parts(x: u64, u: u32, y: u64, v: u32) -> Ordering
+    ensures { result ≡ ordering_then (compare_ℕ x y) (compare_ℕ u v) }
 {
     if x == y {
         return names::compare_numbers(u, v);
     }
     if x < y {
-        return Order::Less;
+        return Ordering::Less;
     }
-    Order::More
+    Ordering::Greater
 }
 
 // The tuples that stand at p and at q.
-fn compare_tuples(a: &[u8], p: usize, b: &[u8], q: usize) -> Order
+fn compare_tuples(a: &[u8], p: usize, b: &[u8], q: usize) -> Ordering
     requires { (p + tuple_size ≤ length a.now) × (q + tuple_size ≤ length b.now) }
     ensures { result ≡ compare_tuples (tuple_at a.now p) (tuple_at b.now q) }
 {
@@ -172,7 +174,7 @@ fn compare_tuples(a: &[u8], p: usize, b: &[u8], q: usize) -> Order
 }
 
 // The tuple that stands at p, compared with t.
-fn compare_tuple(a: &[u8], p: usize, t: Tuple) -> Order
+fn compare_tuple(a: &[u8], p: usize, t: Tuple) -> Ordering
     requires { p + tuple_size ≤ length a.now }
     ensures { result ≡ compare_tuples (tuple_at a.now p) t }
 {
@@ -186,7 +188,7 @@ fn compare_tuple(a: &[u8], p: usize, t: Tuple) -> Order
 
 // "Names compare at the first tuple that differs; a proper prefix is smaller": the n tuples from p on in a with the m from q on in b, where
 // they stand. Everything that compares names in bytes goes through here.
-pub fn compare_rows(a: &[u8], p: usize, n: usize, b: &[u8], q: usize, m: usize) -> Order
+pub fn compare_rows(a: &[u8], p: usize, n: usize, b: &[u8], q: usize, m: usize) -> Ordering
     requires { (p + tuple_size * n ≤ length a.now) × (q + tuple_size * m ≤ length b.now) }
     ensures { result ≡ compare_rows (tuples_at a.now p n) (tuples_at b.now q m) }
 {
@@ -194,17 +196,17 @@ pub fn compare_rows(a: &[u8], p: usize, n: usize, b: &[u8], q: usize, m: usize) 
     loop {
         if n <= i {
             if m <= i {
-                break Order::Same;
+                break Ordering::Equal;
             }
-            break Order::Less;
+            break Ordering::Less;
         }
         if m <= i {
-            break Order::More;
+            break Ordering::Greater;
         }
         match compare_tuples(a, p + TUPLE * i, b, q + TUPLE * i) {
-            Order::Less => break Order::Less,
-            Order::More => break Order::More,
-            Order::Same => {}
+            Ordering::Less => break Ordering::Less,
+            Ordering::Greater => break Ordering::Greater,
+            Ordering::Equal => {}
         }
         i += 1;
     }
@@ -213,16 +215,16 @@ pub fn compare_rows(a: &[u8], p: usize, n: usize, b: &[u8], q: usize, m: usize) 
 // The tuples that stand at p and at q are equal. All is read before it is tested, and nothing swapped.
 fn same_tuples(a: &[u8], p: usize, b: &[u8], q: usize) -> bool
     requires { (p + tuple_size ≤ length a.now) × (q + tuple_size ≤ length b.now) }
-    ensures { result ≡ is_same (compare_tuples (tuple_at a.now p) (tuple_at b.now q)) }
+    ensures { result ≡ is_eq (compare_tuples (tuple_at a.now p) (tuple_at b.now q)) }
 {
-    names::is_same(compare_tuples(a, p, b, q))
+    compare_tuples(a, p, b, q).is_eq()
 }
 
 // How many tuples from the first on are equal in two rows: up to "the first tuple that differs", or all of the shorter.
 fn alike(a: &[u8], p: usize, n: usize, b: &[u8], q: usize, m: usize) -> usize
     requires { (p + tuple_size * n ≤ length a.now) × (q + tuple_size * m ≤ length b.now) }
     ensures upper_bound { (result ≤ n) × (result ≤ m) × (tuples_at a.now p result ≡ tuples_at b.now q result) }
-    ensures result_value { result < n → result < m → is_same (compare_tuples (tuple_at a.now (p + tuple_size * result)) (tuple_at b.now (q + tuple_size * result))) ≡ false }
+    ensures result_value { result < n → result < m → is_eq (compare_tuples (tuple_at a.now (p + tuple_size * result)) (tuple_at b.now (q + tuple_size * result))) ≡ false }
 {
     let mut i: usize = 0;
     loop {
@@ -241,27 +243,27 @@ fn alike(a: &[u8], p: usize, n: usize, b: &[u8], q: usize, m: usize) -> usize
 }
 
 // The n tuples from p on, compared with the name of one tuple.
-pub fn compare_to_one(a: &[u8], p: usize, n: usize, t: Tuple) -> Order
+pub fn compare_to_one(a: &[u8], p: usize, n: usize, t: Tuple) -> Ordering
     requires { p + tuple_size * n ≤ length a.now }
     ensures { result ≡ compare_rows (tuples_at a.now p n) (t ∷ []) }
 {
     if n < 1 {
-        return Order::Less;
+        return Ordering::Less;
     }
     match compare_tuple(a, p, t) {
-        Order::Less => Order::Less,
-        Order::Same => {
+        Ordering::Less => Ordering::Less,
+        Ordering::Equal => {
             if n < 2 {
-                return Order::Same;
+                return Ordering::Equal;
             }
-            Order::More
+            Ordering::Greater
         }
-        Order::More => Order::More,
+        Ordering::Greater => Ordering::Greater,
     }
 }
 
 // The names of two slots with room for so many tuples compared.
-pub fn compare_slots(a: &[u8], b: &[u8], room: usize) -> Order
+pub fn compare_slots(a: &[u8], b: &[u8], room: usize) -> Ordering
     requires { (length a.now ≡ size_over room) × (length b.now ≡ size_over room) }
     ensures { result ≡ compare_rows (name_over room a.now) (name_over room b.now) }
 {
@@ -371,8 +373,8 @@ pub fn is_name_at(s: &[u8], p: usize, n: usize) -> bool
 // proper prefix is smaller".
 fn rises_at(a: &[u8], p: usize, n: usize, s: &[u8], q: usize, d: usize, i: usize) -> bool
     requires n_in_bounds { (p + tuple_size * n ≤ length a.now) × (q + tuple_size * d ≤ length s.now) × (i ≤ n) × (i ≤ d) }
-    requires i_value { (tuples_at a.now p i ≡ tuples_at s.now q i) × (i < n → i < d → is_same (compare_tuples (tuple_at a.now (p + tuple_size * i)) (tuple_at s.now (q + tuple_size * i))) ≡ false) }
-    ensures { result ≡ is_less (compare_rows (tuples_at a.now p n) (tuples_at s.now q d)) }
+    requires i_value { (tuples_at a.now p i ≡ tuples_at s.now q i) × (i < n → i < d → is_eq (compare_tuples (tuple_at a.now (p + tuple_size * i)) (tuple_at s.now (q + tuple_size * i))) ≡ false) }
+    ensures { result ≡ is_lt (compare_rows (tuples_at a.now p n) (tuples_at s.now q d)) }
 {
     if d <= i {
         return false;
@@ -380,14 +382,14 @@ fn rises_at(a: &[u8], p: usize, n: usize, s: &[u8], q: usize, d: usize, i: usize
     if n <= i {
         return true;
     }
-    names::is_less(compare_tuples(a, p + TUPLE * i, s, q + TUPLE * i))
+    compare_tuples(a, p + TUPLE * i, s, q + TUPLE * i).is_lt()
 }
 
 // The d tuples from q on are a name, above the n from p on, which begin one or are none: what the two share is looked at once.
 pub fn follows(a: &[u8], p: usize, n: usize, s: &[u8], q: usize, d: usize) -> bool
     requires n_in_bounds { (p + tuple_size * n ≤ length a.now) × (leads (tuples_at a.now p n) ≡ true) }
     requires le_d { (1 ≤ d) × (d ≤ limit) × (q + tuple_size * d ≤ length s.now) }
-    ensures { result ≡ (is_name (tuples_at s.now q d) && is_less (compare_rows (tuples_at a.now p n) (tuples_at s.now q d))) }
+    ensures { result ≡ (is_name (tuples_at s.now q d) && is_lt (compare_rows (tuples_at a.now p n) (tuples_at s.now q d))) }
 {
     let i = alike(a, p, n, s, q, d);
     if !name_from(s, q, d, i) {
@@ -507,7 +509,7 @@ pub fn look_after(a: &[u8], n: usize, s: &[u8], room: usize) -> Seen
         return Seen::Broken;
     }
     let p = HEAD + TUPLE * i;
-    if names::is_less(compare_rows(a, p, n - i, s, p, d - i)) {
+    if compare_rows(a, p, n - i, s, p, d - i).is_lt() {
         Seen::Rising
     } else {
         Seen::NotRising

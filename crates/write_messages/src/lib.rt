@@ -140,12 +140,12 @@ pub fn write(numbers: Numbers, names: &[u8], out: &mut [u8]) -> Answer
     ensures out_after { out.new ≡ leaves (write_outcome numbers names.now (length out.old)) out.old }
 {
     if !may_write(numbers, names) {
-        return Answer::Refused(Refusal::Malformed);
+        return Err(Refusal::Malformed);
     }
     let size = message_size(numbers, names);
     if out.len() < size {
-        return Answer::Refused(Refusal::Short);
+        return Err(Refusal::Short);
     }
     write_fields(numbers, names, out);
-    Answer::Accepted(size)
+    Ok(size)
 }

@@ -7,12 +7,13 @@ use Rattle.answers.specs.declared.Refusal.TheVariants.{BadLayout, NotRising}
 use Rattle.slots.specs.Slots.{keeps_slot}
 use Rattle.slots.proofs.LookedAt.{tells_broken, tells_falling, tells_rising}
 use Rattle.pages.specs.Pages.{keeps_layout, rises}
-use Rattle.edits.specs.declared.Checked.{Checked}
-use Rattle.edits.specs.declared.Checked.TheVariants.{Refused, Passed}
+use Rattle.std.specs.declared.result.Result.{Result}
+use Rattle.answers.specs.declared.Refusal.{Refusal}
+use Rattle.std.specs.declared.result.Result.TheVariants.{Ok, Err}
 use Rattle.edits.proofs.check_edit.Goals as goal
 
 -- a slot that breaks its layout, whatever the page
-slot_broken : (k r : Bool) (x : Checked) → Refused BadLayout ≡ in_order (k else BadLayout ∷ false else BadLayout ∷ r else NotRising ∷ []) Refused x
+slot_broken : (k r : Bool) (x : (Result Unit Refusal)) → Err BadLayout ≡ in_order (k else BadLayout ∷ false else BadLayout ∷ r else NotRising ∷ []) Err x
 slot_broken true r x = refl
 slot_broken false r x = refl
 
@@ -21,7 +22,7 @@ returns-then-not-slot_ok c =
     let page = c.args.page.now in
     let slot = c.args.slot.now in
     let broken : keeps_slot slot ≡ false = sym c.slot_ok.ensures ∙ c.if-not-slot_ok.true in
-    simp broken (slot_broken (keeps_layout page) (rises page) Passed)
+    simp broken (slot_broken (keeps_layout page) (rises page) (Ok tt))
 
 pub returns-in-Broken : goal.returns-in-Broken
 returns-in-Broken c =

@@ -8,21 +8,21 @@ use Rattle.answers.specs.Answers.{leaves}
 use Rattle.edits.specs.Edits.{insert_outcome}
 use Rattle.edits.proofs.insert.Goals as goal
 
-pub returns-in-Refused : goal.returns-in-Refused
-returns-in-Refused c =
+pub returns-in-Err : goal.returns-in-Err
+returns-in-Err c =
     let both : (_ ≡ (insert_outcome c.args.page.now c.args.slot.now (length c.args.out.now)).answer) × (_ ≡ leaves (insert_outcome c.args.page.now c.args.slot.now (length c.args.out.now)) c.args.out.now) =
-    refused _ _ _ (insert_refused c.args.page.now c.args.slot.now _ _ (sym c.check_edit.ensures ∙ c.in-Refused.is))
+    refused _ _ _ (insert_refused c.args.page.now c.args.slot.now _ _ (sym c.check_edit.ensures ∙ c.in-Err.is))
     in record { value = both.0; out_after = both.1 }
 
 pub find-requires : goal.find-requires
 find-requires c =
     let slot = c.args.slot.now in
-    let p = checked c.args.page.now slot (sym c.check_edit.ensures ∙ c.in-Passed.is) in
+    let p = checked c.args.page.now slot (sym c.check_edit.ensures ∙ c.in-Ok.is) in
     ((kept slot p.1.0).long, p.1.1.0)
 
 pub insert_at-requires : goal.insert_at-requires
 insert_at-requires c =
-    let p = checked c.args.page.now c.args.slot.now (sym c.check_edit.ensures ∙ c.in-Passed.is) in
+    let p = checked c.args.page.now c.args.slot.now (sym c.check_edit.ensures ∙ c.in-Ok.is) in
     record {
       page_value = (p.0, p.1.0, p.1.1.0);
       page_value_2 = sym c.find.ensures ∙ c.in-Gap.is;
@@ -32,7 +32,7 @@ pub returns-in-Here : goal.returns-in-Here
 returns-in-Here c =
     let page = c.args.page.now in
     let slot = c.args.slot.now in
-    let p = checked page slot (sym c.check_edit.ensures ∙ c.in-Passed.is) in
+    let p = checked page slot (sym c.check_edit.ensures ∙ c.in-Ok.is) in
     let both : (_ ≡ (insert_outcome c.args.page.now c.args.slot.now (length c.args.out.now)).answer) × (_ ≡ leaves (insert_outcome c.args.page.now c.args.slot.now (length c.args.out.now)) c.args.out.now) =
     refused _ _ _ (insert_present page slot _ _ p (sym c.find.ensures ∙ c.in-Here.is))
     in record { value = both.0; out_after = both.1 }

@@ -3,5 +3,5 @@ use mathlib.Core.Path.{sym, ap}
 use Rattle.epochs.specs.Calls.{answer_of}
 use Rattle.epochs.proofs.answer.Goals as goal
 
-pub returns-in-Refused : goal.returns-in-Refused
-returns-in-Refused c = ap answer_of (sym c.in-Refused.is)
+pub returns-in-Err : goal.returns-in-Err
+returns-in-Err c = ap answer_of (sym c.in-Err.is)

@@ -1,6 +1,6 @@
 -- `epochs::key_below` meets its contract. Assumes nothing.
 use mathlib.Core.Path.{◌∙◌}
-use Rattle.names.specs.Ordering.{is_less}
+use Rattle.std.specs.Ordering.{is_lt}
 use Rattle.epoch_tree.specs.Tree.{compare_keys}
 use Rattle.epochs.proofs.TreeInArray.{in_array, entry_held}
 use Rattle.epochs.proofs.key_below.Goals as goal
@@ -15,4 +15,4 @@ returns c =
     let s = c.args.tree.now in
     let first = entry_held s c.args.size c.args.i c.requires.0 in
     let second = entry_held s c.args.size c.args.j c.requires.1 in
-    c.is_below.ensures ∙ (λ z. is_less (compare_keys (first z) (second z)))
+    c.is_below.ensures ∙ (λ z. is_lt (compare_keys (first z) (second z)))

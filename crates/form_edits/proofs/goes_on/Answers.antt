@@ -5,7 +5,8 @@ use Prim.Native.Nat.{ℕ}
 use native.Mathlib.Omega.{arith}
 use borrow.Author.Tests.{eq-eqb, ne_eqb}
 use lib.Dec.{eqb}
-use Rattle.names.specs.Ordering.{compare_rows, is_same}
+use Rattle.names.specs.Ordering.{compare_rows}
+use Rattle.std.specs.Ordering.{is_eq}
 use Rattle.names.specs.Names.{is_name}
 use Rattle.slots.specs.Tuples.{tuples_at, row_at}
 use Rattle.slots.proofs.TuplesInBytes.{length_tuples_at}
@@ -29,7 +30,7 @@ returns-then-before-next c =
     let b = row_at s x.next.name in
     let some : eqb x.before.count 0 ≡ false = ne_eqb x.before.count 0 (λ q. omega arith) in
     let more : eqb x.next.count 0 ≡ false = ne_eqb x.next.count 0 (λ q. omega arith) in
-    let apart : is_same (compare_rows (onward x.before.count a) b) ≡ false =
+    let apart : is_eq (compare_rows (onward x.before.count a) b) ≡ false =
     other_length x.before.count a b (λ q. c.if-before-next.true (sym (length_tuples_at s x.before.name.at x.before.name.count) ∙ q ∙ length_tuples_at s x.next.name.at x.next.name.count)) in
     simp (some, more, apart)
 
@@ -54,5 +55,5 @@ returns c =
     let more : eqb x.next.count 0 ≡ false = ne_eqb x.next.count 0 (λ q. omega arith) in
     let e : x.before.name.count ≡ x.next.name.count = omega arith in
     c.is_onward.ensures
-    ∙ ap (λ (n : ℕ). is_same (compare_rows (onward x.before.count a) (tuples_at s x.next.name.at n))) e
+    ∙ ap (λ (n : ℕ). is_eq (compare_rows (onward x.before.count a) (tuples_at s x.next.name.at n))) e
     ∙ sym (simp (some, more))

@@ -9,7 +9,7 @@ use Rattle.answers.specs.Answers.{in_order}
 use Rattle.answers.proofs.Outcomes.{refused}
 use Rattle.groups.proofs.FormPages.{held}
 use Rattle.forms.specs.declared.Looked.{Looked}
-use Rattle.form_edits.specs.declared.Checked.TheVariants.{Refused as NotChecked, Passed as Checked}
+use Rattle.std.specs.declared.result.Result.TheVariants.{Ok, Err}
 use Rattle.form_edits.specs.Edits.{looked_tests, place_in, Edited}
 use Rattle.form_edits.proofs.Outcomes.{all_passed, looked_is, insert_refused}
 use Rattle.form_edits.proofs.insert.Goals as goal
@@ -20,14 +20,14 @@ insert_into-requires c =
     let t = c.args.slot.now in
     let x = row_at t c.name_in-name.result in
     let l = c.look-looked.ensures in
-    let p = all_passed s t x (ap (λ (y : Looked). in_order (looked_tests y t) NotChecked Checked) (sym l) ∙ sym c.check_edit.ensures ∙ c.in-Passed.is) in
+    let p = all_passed s t x (ap (λ (y : Looked). in_order (looked_tests y t) Err (Ok tt)) (sym l) ∙ sym c.check_edit.ensures ∙ c.in-Ok.is) in
     let n = c.name_in-name.ensures.result_value (kept t p.1).long in
     let e : Edited s t c.name_in-name.result = record { tests = p.0; keeps = p.1; lies = c.name_in-name.ensures.lies; named = n } in
     let i = looked_is s t x (held s p.0).form in
     (e, ap (λ (y : Looked). y.slots) l ∙ i.0, ap (λ (y : Looked). y.place) l ∙ i.1 ∙ ap (place_in s) n)
 
-pub returns-in-Refused : goal.returns-in-Refused
-returns-in-Refused c =
+pub returns-in-Err : goal.returns-in-Err
+returns-in-Err c =
     let slot_octets : Octets c.args.slot.now = λ i. omega (arith, c.type_inv.slot i) in
     let s = c.args.form.now in
     let t = c.args.slot.now in
@@ -35,5 +35,5 @@ returns-in-Refused c =
     let both =
     refused _ _ _
     (insert_refused s t x slot_octets (length c.args.out.now) _
-    (ap (λ (y : Looked). in_order (looked_tests y t) NotChecked Checked) (sym c.look-looked.ensures) ∙ sym c.check_edit.ensures ∙ c.in-Refused.is))
+    (ap (λ (y : Looked). in_order (looked_tests y t) Err (Ok tt)) (sym c.look-looked.ensures) ∙ sym c.check_edit.ensures ∙ c.in-Err.is))
     in record { value = both.0; out_after = both.1 }

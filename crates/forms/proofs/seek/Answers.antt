@@ -15,14 +15,14 @@ returns-in-Less c =
     sought_on (row_at x.slot.now x.name) x.at (row_at x.form.now x.first) x.place (not-false x.place.sought c.if-not-place.false)
     c.compare_rows.ensures c.in-Less.is
 
-pub returns-in-Same : goal.returns-in-Same
-returns-in-Same c =
+pub returns-in-Equal : goal.returns-in-Equal
+returns-in-Equal c =
     let x = c.args in
     sought_on (row_at x.slot.now x.name) x.at (row_at x.form.now x.first) x.place (not-false x.place.sought c.if-not-place.false)
-    c.compare_rows.ensures c.in-Same.is
+    c.compare_rows.ensures c.in-Equal.is
 
-pub returns-in-More : goal.returns-in-More
-returns-in-More c =
+pub returns-in-Greater : goal.returns-in-Greater
+returns-in-Greater c =
     let x = c.args in
     sought_on (row_at x.slot.now x.name) x.at (row_at x.form.now x.first) x.place (not-false x.place.sought c.if-not-place.false)
-    c.compare_rows.ensures c.in-More.is
+    c.compare_rows.ensures c.in-Greater.is

@@ -1,4 +1,5 @@
 -- `name_values::join_by` meets its contract. Assumes nothing.
+use Rattle.std.specs.declared.option.Option.TheVariants.{Some}
 use native.Mathlib.Omega.{arith}
 use mathlib.Core.Path.{◌≡◌, ap, ◌∙◌}
 use mathlib.Core.List.{[], ◌∷◌, ◌++◌, append_assoc}
@@ -7,7 +8,7 @@ use lib.ListN.{length, length-append}
 use Rattle.names.specs.declared.Name.{Name}
 use Rattle.names.specs.Ordering.{Row}
 use Rattle.names.specs.Names.{limit, row_of, value_of}
-use Rattle.name_values.proofs.JoinedRows.{value_of_lem, row_of_lem, joined_fits, joined_all, joined_deep, joined_none}
+use Rattle.name_values.proofs.JoinedRows.{value_of_lem, row_of_lem, joined_all, joined_none}
 use Rattle.name_values.proofs.join_by.Goals as goal
 
 -- a on no row, and t on that
@@ -20,7 +21,7 @@ returns-then-tuples_in-ge-LIMIT c =
     let a = row_of x.a in
     let b = x.t ∷ row_of x.b in
     let h : limit < length a + length b = omega arith in
-    (joined_deep a b h, c.empty-name.ensures ∙ ap value_of (joined_none a b h))
+    joined_none a b h
 
 pub append-requires : goal.append-requires
 append-requires c = let l = ap length (row_of_lem [] c.empty.ensures) in (value_of_lem [] c.empty.ensures, omega arith)
@@ -32,8 +33,8 @@ push-requires c =
     let l = ap length (row_of_lem a e) in
     (value_of_lem a e, omega arith)
 
-pub append-name-requires : goal.append-name-requires
-append-name-requires c =
+pub append-requires-2 : goal.append-requires-2
+append-requires-2 c =
     let x = c.args in
     let a = row_of x.a in
     let e = first a c.empty.ensures c.append.ensures in
@@ -49,5 +50,5 @@ returns c =
     let h : length a + length b ≤ limit = omega arith in
     let e = first a c.empty.ensures c.append.ensures in
     let f = c.push.ensures ∙ ap (λ (r : Row). value_of (r ++ (x.t ∷ []))) (row_of_lem a e) in
-    let g = c.append-name.ensures ∙ ap (λ (r : Row). value_of (r ++ row_of x.b)) (row_of_lem (a ++ (x.t ∷ [])) f) ∙ ap value_of (append_assoc a (x.t ∷ []) (row_of x.b)) in
-    (joined_fits a b h, g ∙ ap value_of (joined_all a b h))
+    let g = c.append-2.ensures ∙ ap (λ (r : Row). value_of (r ++ row_of x.b)) (row_of_lem (a ++ (x.t ∷ [])) f) ∙ ap value_of (append_assoc a (x.t ∷ []) (row_of x.b)) in
+    ap Some g ∙ joined_all a b h

@@ -6,11 +6,11 @@ use Rattle.names.specs.Names.{row_of}
 use Rattle.name_values.proofs.JoinedRows.{value_more}
 use Rattle.name_values.proofs.push.Goals as goal
 
-pub offset_bounds-tuples-n : goal.offset_bounds-tuples-n
-offset_bounds-tuples-n c = let d = ap (λ (y : Name). y.depth) c.requires.0 in omega arith
+pub offset_bounds-tuples-a : goal.offset_bounds-tuples-a
+offset_bounds-tuples-a c = let d = ap (λ (y : Name). y.depth) c.requires.0 in omega arith
 
-pub bounds-tuples-n : goal.bounds-tuples-n
-bounds-tuples-n c = let d = ap (λ (y : Name). y.depth) c.requires.0 in omega arith
+pub bounds-tuples-a : goal.bounds-tuples-a
+bounds-tuples-a c = let d = ap (λ (y : Name). y.depth) c.requires.0 in omega arith
 
 pub overflow_add-result : goal.overflow_add-result
 overflow_add-result c = let d = ap (λ (y : Name). y.depth) c.requires.0 in omega arith

@@ -19,4 +19,4 @@ returns c =
     let a = c.args.a in
     let b = c.args.b in
     rest_compared s a.at a.count b.at b.count c.compare_rows.ensures c.if-b-a.false
-    ∙ ap (λ (t : Bool). cond t (some (drop a.count (row_at s b))) none) (sym c.is_same.ensures)
+    ∙ ap (λ (t : Bool). cond t (some (drop a.count (row_at s b))) none) (sym c.is_eq.ensures)

@@ -5,7 +5,7 @@ use borrow.Author.Tests.{le-leb, lt-leb}
 use lib.ListN.{length}
 use Rattle.names.specs.Names.{limit}
 use Rattle.numbers.specs.Bytes.{Bytes}
-use Rattle.numbers.specs.Lists.{every}
+use Rattle.std.specs.List.{list_all}
 use Rattle.numbers.proofs.Every.{every_map}
 use Rattle.slots.specs.Slots.{head_size, slot_size, depth_of, slot_of, name_of}
 use Rattle.slots.proofs.TuplesInBytes.{length_tuples_at}
@@ -17,7 +17,7 @@ use Rattle.old_pages.proofs.depths_fit.Goals as goal
 use Rattle.old_pages.proofs.depths_fit.Invariants.{shallow}
 
 -- the names' depths are those of the slots
-over_names : (s : Bytes) → every shallow (parts (length s / slot_size) s) ≡ every fits_old (names_of s)
+over_names : (s : Bytes) → list_all shallow (parts (length s / slot_size) s) ≡ list_all fits_old (names_of s)
 over_names s = sym (every_map fits_old name_in (slots_of s) ∙ every_map (λ x. fits_old (name_in x)) slot_of (parts (length s / slot_size) s))
 
 -- the depth that was read is that of the name

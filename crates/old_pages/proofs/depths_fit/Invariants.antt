@@ -4,7 +4,7 @@ use mathlib.Core.Bool.{Bool}
 use Prim.Native.Nat.{◌-◌, ◌/◌, ◌≤◌}
 use lib.ListN.{length, drop}
 use Rattle.numbers.specs.Bytes.{Bytes}
-use Rattle.numbers.specs.Lists.{every}
+use Rattle.std.specs.List.{list_all}
 use Rattle.slots.specs.Slots.{slot_size, name_of}
 use Rattle.pages.specs.Pages.{parts}
 use Rattle.old_pages.specs.OldPages.{fits_old}
@@ -14,7 +14,7 @@ abbrev pub shallow : Bytes → Bool
 shallow s = fits_old (name_of s)
 
 abbrev pub invariant-loop-k : goal.invariant-loop-k
-invariant-loop-k l = (l.n ≡ length l.page / slot_size) × (l.k ≤ l.n) × (every shallow (drop l.k (parts l.n l.page)) ≡ every shallow (parts l.n l.page))
+invariant-loop-k l = (l.n ≡ length l.page / slot_size) × (l.k ≤ l.n) × (list_all shallow (drop l.k (parts l.n l.page)) ≡ list_all shallow (parts l.n l.page))
 
 abbrev pub decreases-loop-k : goal.decreases-loop-k
 decreases-loop-k l = l.n - l.k

@@ -4,7 +4,7 @@ use mathlib.Core.Bool.{true}
 use native.Mathlib.Omega.{arith}
 use lib.ListN.{length}
 use Rattle.numbers.specs.Bytes.{Bytes, Octets}
-use Rattle.numbers.specs.Lists.{every}
+use Rattle.std.specs.List.{list_all}
 use Rattle.pages.specs.Pages.{names_of, keeps_layout, rises}
 use Rattle.answers.proofs.Outcomes.{refused, accepted}
 use Rattle.slots.proofs.LookedAt.{tells_broken, tells_falling, tells_rising}
@@ -43,7 +43,7 @@ returns-then-out-n c =
     let sound : (keeps_layout page ≡ true) × (rises page ≡ true) = tells_rising (keeps_layout page) (rises page) (c.in-Rising.ensures) in
     let page = c.args.page.now in
     let octets : Octets page = λ i. omega (arith, c.type_inv.page i) in
-    let shallow : every fits_old (names_of page) ≡ true = sym c.depths_fit.ensures ∙ c.if-not-depths_fit.false in
+    let shallow : list_all fits_old (names_of page) ≡ true = sym c.depths_fit.ensures ∙ c.if-not-depths_fit.false in
     let both : (_ ≡ (to_old_outcome c.args.page.now (length c.args.out.now)).answer) × (_ ≡ leaves (to_old_outcome c.args.page.now (length c.args.out.now)) c.args.out.now) =
     refused _ _ _ (to_short page _ octets sound.0 sound.1 shallow (omega arith))
     in record { value = both.0; out_after = both.1 }
@@ -60,7 +60,7 @@ returns c =
     let sound : (keeps_layout page ≡ true) × (rises page ≡ true) = tells_rising (keeps_layout page) (rises page) (c.in-Rising.ensures) in
     let page = c.args.page.now in
     let octets : Octets page = λ i. omega (arith, c.type_inv.page i) in
-    let shallow : every fits_old (names_of page) ≡ true = sym c.depths_fit.ensures ∙ c.if-not-depths_fit.false in
+    let shallow : list_all fits_old (names_of page) ≡ true = sym c.depths_fit.ensures ∙ c.if-not-depths_fit.false in
     let both : (_ ≡ (to_old_outcome c.args.page.now (length c.args.out.now)).answer) × (_ ≡ leaves (to_old_outcome c.args.page.now (length c.args.out.now)) c.args.out.now) =
     accepted _ _ _ _ _ (to_done page (length c.args.out.now) octets sound.0 sound.1 shallow (omega arith)) c.write_old.ensures
     in record { value = both.0; out_after = both.1 }

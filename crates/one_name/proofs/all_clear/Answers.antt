@@ -5,7 +5,7 @@ use native.Mathlib.Omega.{arith}
 use lib.ListN.{length, drop}
 use Rattle.names.specs.Names.{is_name}
 use Rattle.names.proofs.Validity.{valid_name}
-use Rattle.numbers.specs.Lists.{every}
+use Rattle.std.specs.List.{list_all}
 use Rattle.numbers.proofs.Every.{every_end}
 use Rattle.slots.specs.Slots.{slot_size}
 use Rattle.pages.specs.Pages.{names_of}
@@ -32,7 +32,7 @@ loop-k-preserved c =
     let h : k < length page / slot_size = omega (arith, c.if-n-k.false) in
     let r = c.is_clear in
     let f = clear_from c.args.author (names_of c.args.log.now) c.args.from in
-    let left = every f (drop (k + 1) (names_of page)) in
+    let left = list_all f (drop (k + 1) (names_of page)) in
     let next = ap (λ (b : Bool). b && left) (sym c.if-not-is_clear.false) ∙ turn f page k h r.ensures c.span_of.ensures.1 in
     (refl, next ∙ c.loop-k.invariant.1)
 
@@ -49,5 +49,5 @@ returns-then-not-is_clear c =
     let h : k < length page / slot_size = omega (arith, c.if-n-k.false) in
     let r = c.is_clear in
     let f = clear_from c.args.author (names_of c.args.log.now) c.args.from in
-    let left = every f (drop (k + 1) (names_of page)) in
+    let left = list_all f (drop (k + 1) (names_of page)) in
     ap (λ (b : Bool). b && left) (sym c.if-not-is_clear.true) ∙ turn f page k h r.ensures c.span_of.ensures.1 ∙ c.loop-k.invariant.1

@@ -37,20 +37,20 @@ returns-in-Less c =
     let found = c.against.ensures ∙ ap (λ (y : Row). compare_rows y r) c.without.ensures.1 in
     chosen (drop 1 x) r (Behind a.k 1) (Behind a.k 1) (under_shape x log (a.k + 1) 1) found c.in-Less.is
 
-pub returns-in-Same : goal.returns-in-Same
-returns-in-Same c =
+pub returns-in-Equal : goal.returns-in-Equal
+returns-in-Equal c =
     let a = c.args in
     let x = row_at a.s.now a.c in
     let log = names_of a.log.now in
     let r = get_or log a.k [] in
     let found = c.against.ensures ∙ ap (λ (y : Row). compare_rows y r) c.without.ensures.1 in
-    chosen (drop 1 x) r (Behind a.k 1) (Behind a.k 1) (under_shape x log (a.k + 1) 1) found c.in-Same.is
+    chosen (drop 1 x) r (Behind a.k 1) (Behind a.k 1) (under_shape x log (a.k + 1) 1) found c.in-Equal.is
 
-pub returns-in-More : goal.returns-in-More
-returns-in-More c =
+pub returns-in-Greater : goal.returns-in-Greater
+returns-in-Greater c =
     let a = c.args in
     let x = row_at a.s.now a.c in
     let log = names_of a.log.now in
     let r = get_or log a.k [] in
     let found = c.against.ensures ∙ ap (λ (y : Row). compare_rows y r) c.without.ensures.1 in
-    c.under.ensures ∙ chosen (drop 1 x) r (Behind a.k 1) (Behind a.k 1) (under_shape x log (a.k + 1) 1) found c.in-More.is
+    c.under.ensures ∙ chosen (drop 1 x) r (Behind a.k 1) (Behind a.k 1) (under_shape x log (a.k + 1) 1) found c.in-Greater.is

@@ -13,16 +13,16 @@ returns-in-Less c =
     let found = c.compare_to_one in
     chosen_one (row_at x.s.now x.x) made.result (lead x.p x.author (pos 0)) KeepBelow PutBelow PutBelow made.ensures found.ensures c.in-Less.is
 
-pub returns-in-Same : goal.returns-in-Same
-returns-in-Same c =
+pub returns-in-Equal : goal.returns-in-Equal
+returns-in-Equal c =
     let x = c.args in
     let made = c.lead in
     let found = c.compare_to_one in
-    chosen_one (row_at x.s.now x.x) made.result (lead x.p x.author (pos 0)) KeepBelow PutBelow PutBelow made.ensures found.ensures c.in-Same.is
+    chosen_one (row_at x.s.now x.x) made.result (lead x.p x.author (pos 0)) KeepBelow PutBelow PutBelow made.ensures found.ensures c.in-Equal.is
 
-pub returns-in-More : goal.returns-in-More
-returns-in-More c =
+pub returns-in-Greater : goal.returns-in-Greater
+returns-in-Greater c =
     let x = c.args in
     let made = c.lead in
     let found = c.compare_to_one in
-    chosen_one (row_at x.s.now x.x) made.result (lead x.p x.author (pos 0)) KeepBelow PutBelow PutBelow made.ensures found.ensures c.in-More.is
+    chosen_one (row_at x.s.now x.x) made.result (lead x.p x.author (pos 0)) KeepBelow PutBelow PutBelow made.ensures found.ensures c.in-Greater.is

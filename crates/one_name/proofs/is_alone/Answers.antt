@@ -3,7 +3,8 @@ use mathlib.Core.Path.{◌∙◌, ap}
 use mathlib.Core.List.{[]}
 use native.Mathlib.Omega.{arith}
 use lib.ListN.{get_or}
-use Rattle.names.specs.Ordering.{Row, compare_rows, is_less}
+use Rattle.names.specs.Ordering.{Row, compare_rows}
+use Rattle.std.specs.Ordering.{is_lt}
 use Rattle.slots.specs.Tuples.{row_at}
 use Rattle.pages.specs.Pages.{names_of}
 use Rattle.name_renames.specs.Alone.{is_above}
@@ -21,7 +22,7 @@ returns-then-is_below c =
     let h = under_first log a.author x c.requires.0 first c.lead.ensures c.is_below.ensures c.if-is_below.true in
     let v = c.without.ensures.1 ∙ low_is log a.author x c.requires.0 first c.strip_below.ensures.2 in
     let found = c.against.ensures ∙ ap (λ (y : Row). compare_rows y (get_or (names_of log) 0 [])) v in
-    c.is_less.ensures ∙ ap is_less found ∙ alone_below a.author (names_of log) x h
+    c.is_lt.ensures ∙ ap is_lt found ∙ alone_below a.author (names_of log) x h
 
 pub overflow_sub-last : goal.overflow_sub-last
 overflow_sub-last c =

@@ -5,8 +5,8 @@ use mathlib.Core.Bool.{◌&&◌}
 use Prim.Native.Nat.{◌+◌, ◌/◌}
 use native.Mathlib.Omega.{arith}
 use lib.ListN.{length, get_or}
-use Rattle.names.specs.declared.Order.{Order}
-use Rattle.names.specs.Ordering.{is_less}
+use Rattle.std.specs.declared.cmp.Ordering.{Ordering}
+use Rattle.std.specs.Ordering.{is_lt}
 use Rattle.names.proofs.TestedOrder.{turned_less, turned_same, turned_more}
 use Rattle.slots.specs.Tuples.{row_at}
 use Rattle.slots.specs.Slots.{slot_size}
@@ -20,14 +20,14 @@ returns-in-Less c =
     let a = c.args in
     let x = row_at a.s.now a.t in
     let l = names_of a.log.now in
-    ap (λ (o : Order). is_less o && is_below x (get_or l (a.k + 1) [])) (turned_less x (get_or l a.k []) (sym c.against.ensures ∙ c.in-Less.is))
+    ap (λ (o : Ordering). is_lt o && is_below x (get_or l (a.k + 1) [])) (turned_less x (get_or l a.k []) (sym c.against.ensures ∙ c.in-Less.is))
 
-pub returns-in-Same : goal.returns-in-Same
-returns-in-Same c =
+pub returns-in-Equal : goal.returns-in-Equal
+returns-in-Equal c =
     let a = c.args in
     let x = row_at a.s.now a.t in
     let l = names_of a.log.now in
-    ap (λ (o : Order). is_less o && is_below x (get_or l (a.k + 1) [])) (turned_same x (get_or l a.k []) (sym c.against.ensures ∙ c.in-Same.is))
+    ap (λ (o : Ordering). is_lt o && is_below x (get_or l (a.k + 1) [])) (turned_same x (get_or l a.k []) (sym c.against.ensures ∙ c.in-Equal.is))
 
 pub overflow_add-k : goal.overflow_add-k
 overflow_add-k c =
@@ -39,5 +39,5 @@ returns c =
     let a = c.args in
     let x = row_at a.s.now a.t in
     let l = names_of a.log.now in
-    let next = c.is_less.ensures ∙ ap is_less c.against-2.ensures in
-    next ∙ ap (λ (o : Order). is_less o && is_below x (get_or l (a.k + 1) [])) (turned_more x (get_or l a.k []) (sym c.against.ensures ∙ c.in-More.is))
+    let next = c.is_lt.ensures ∙ ap is_lt c.against-2.ensures in
+    next ∙ ap (λ (o : Ordering). is_lt o && is_below x (get_or l (a.k + 1) [])) (turned_more x (get_or l a.k []) (sym c.against.ensures ∙ c.in-Greater.is))

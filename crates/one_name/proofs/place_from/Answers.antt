@@ -3,7 +3,7 @@ use mathlib.Core.List.{[]}
 use Prim.Native.Nat.{◌/◌, ◌<◌}
 use native.Mathlib.Omega.{arith}
 use lib.ListN.{length, get_or}
-use Rattle.names.specs.declared.Order.{Order}
+use Rattle.std.specs.declared.cmp.Ordering.{Ordering}
 use Rattle.names.specs.Ordering.{Row, compare_rows}
 use Rattle.slots.specs.Tuples.{row_at}
 use Rattle.names.proofs.Laws.{rising_Rising, less_row, same_row, more_row}
@@ -15,7 +15,7 @@ use Rattle.one_name.proofs.PlaceInLog.{below_before, below_within}
 use Rattle.one_name.proofs.place_from.Goals as goal
 
 -- the name at k compares with x as o
-compared : {a : Row} {o r : Order} (b x : Row) → a ≡ b → r ≡ compare_rows a x → r ≡ o → compare_rows b x ≡ o
+compared : {a : Row} {o r : Ordering} (b x : Row) → a ≡ b → r ≡ compare_rows a x → r ≡ o → compare_rows b x ≡ o
 compared b x e f g = ap (λ (c : Row). compare_rows c x) (sym e) ∙ sym f ∙ g
 
 pub loop-k-init : goal.loop-k-init
@@ -49,23 +49,23 @@ returns-then-n-k c =
     let l = length_names s (length s / slot_size) in
     missed x (names_of s) c.loop-k.k (omega arith) c.loop-k.invariant.2 (λ i p q. absurd (omega arith))
 
-pub returns-in-Same : goal.returns-in-Same
-returns-in-Same c =
+pub returns-in-Equal : goal.returns-in-Equal
+returns-in-Equal c =
     let s = c.args.log.now in
     let x = row_at c.args.s.now c.args.x in
     let k = c.loop-k.k in
     let o = rising_Rising (names_of s) c.requires.0 in
     let h : k < length (names_of s) = omega (arith, length_names s (length s / slot_size)) in
-    let told = compared (get_or (names_of s) k []) x c.span_of-r.ensures.1 c.compare_rows.ensures c.in-Same.is in
+    let told = compared (get_or (names_of s) k []) x c.span_of-r.ensures.1 c.compare_rows.ensures c.in-Equal.is in
     found x (names_of s) k o h (same_row (get_or (names_of s) k []) x told)
 
-pub returns-in-More : goal.returns-in-More
-returns-in-More c =
+pub returns-in-Greater : goal.returns-in-Greater
+returns-in-Greater c =
     let s = c.args.log.now in
     let x = row_at c.args.s.now c.args.x in
     let k = c.loop-k.k in
     let o = rising_Rising (names_of s) c.requires.0 in
     let h : k < length (names_of s) = omega (arith, length_names s (length s / slot_size)) in
-    let told = compared (get_or (names_of s) k []) x c.span_of-r.ensures.1 c.compare_rows.ensures c.in-More.is in
+    let told = compared (get_or (names_of s) k []) x c.span_of-r.ensures.1 c.compare_rows.ensures c.in-Greater.is in
     let t = more_row (get_or (names_of s) k []) x told in
     missed x (names_of s) k (omega arith) c.loop-k.invariant.2 (to_right o k h t)

@@ -20,18 +20,18 @@ returns-in-Less c =
     let found = c.against.ensures ∙ ap (λ (y : Row). compare_rows y r) c.without.ensures.1 in
     chosen v r (Own a.cut) (Ahead a.k a.cut) (Ahead a.k a.cut) found c.in-Less.is
 
-pub returns-in-Same : goal.returns-in-Same
-returns-in-Same c =
+pub returns-in-Equal : goal.returns-in-Equal
+returns-in-Equal c =
     let a = c.args in
     let v = drop a.cut (row_at a.s.now a.c) in
     let r = get_or (names_of a.log.now) a.k [] in
     let found = c.against.ensures ∙ ap (λ (y : Row). compare_rows y r) c.without.ensures.1 in
-    chosen v r (Own a.cut) (Ahead a.k a.cut) (Ahead a.k a.cut) found c.in-Same.is
+    chosen v r (Own a.cut) (Ahead a.k a.cut) (Ahead a.k a.cut) found c.in-Equal.is
 
-pub returns-in-More : goal.returns-in-More
-returns-in-More c =
+pub returns-in-Greater : goal.returns-in-Greater
+returns-in-Greater c =
     let a = c.args in
     let v = drop a.cut (row_at a.s.now a.c) in
     let r = get_or (names_of a.log.now) a.k [] in
     let found = c.against.ensures ∙ ap (λ (y : Row). compare_rows y r) c.without.ensures.1 in
-    chosen v r (Own a.cut) (Ahead a.k a.cut) (Ahead a.k a.cut) found c.in-More.is
+    chosen v r (Own a.cut) (Ahead a.k a.cut) (Ahead a.k a.cut) found c.in-Greater.is

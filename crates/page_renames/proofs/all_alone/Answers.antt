@@ -7,7 +7,7 @@ use lib.ListN.{length, drop, get_or}
 use Rattle.names.specs.declared.Author.{Author}
 use Rattle.names.specs.Ordering.{Row}
 use Rattle.numbers.specs.Bytes.{Bytes}
-use Rattle.numbers.specs.Lists.{every}
+use Rattle.std.specs.List.{list_all}
 use Rattle.numbers.proofs.Every.{every_at, every_end}
 use Rattle.slots.specs.Slots.{slot_size}
 use Rattle.pages.specs.Pages.{names_of}
@@ -18,7 +18,7 @@ use Rattle.page_renames.proofs.all_alone.Goals as goal
 
 -- what the test of name i says of the names from there on
 turn : (page : Bytes) (author : Author) (log : List Row) (i : ℕ) {r : Bool} {x : Row} → i < length page / slot_size → r ≡ alone author log x → x ≡ get_or (names_of page) i [] →
-    r && every (alone author log) (drop (i + 1) (names_of page)) ≡ every (alone author log) (drop i (names_of page))
+    r && list_all (alone author log) (drop (i + 1) (names_of page)) ≡ list_all (alone author log) (drop i (names_of page))
 turn page author log i h e f = every_at (alone author log) (names_of page) i [] (within_names page i h) (e ∙ ap (alone author log) f)
 
 pub loop-i-init : goal.loop-i-init
@@ -35,7 +35,7 @@ loop-i-preserved c =
     let i = c.loop-i.i in
     let h : i < length page / slot_size = omega (arith, c.if-n-i.false) in
     let r = c.is_alone in
-    let left = every (alone a.author log) (drop (i + 1) (names_of page)) in
+    let left = list_all (alone a.author log) (drop (i + 1) (names_of page)) in
     let next = ap (λ (b : Bool). b && left) (sym c.if-not-is_alone.false) ∙ turn page a.author log i h r.ensures c.span_of.ensures.1 in
     (refl, next ∙ c.loop-i.invariant.1)
 
@@ -54,7 +54,7 @@ returns-then-not-is_alone c =
     let i = c.loop-i.i in
     let h : i < length page / slot_size = omega (arith, c.if-n-i.false) in
     let r = c.is_alone in
-    let left = every (alone a.author log) (drop (i + 1) (names_of page)) in
+    let left = list_all (alone a.author log) (drop (i + 1) (names_of page)) in
     ap (λ (b : Bool). b && left) (sym c.if-not-is_alone.true)
     ∙ turn page a.author log i h r.ensures c.span_of.ensures.1
     ∙ c.loop-i.invariant.1

@@ -2,7 +2,7 @@
 use mathlib.Core.Path.{◌≡◌}
 use Prim.Native.Nat.{◌-◌, ◌/◌}
 use lib.ListN.{length, drop}
-use Rattle.numbers.specs.Lists.{every}
+use Rattle.std.specs.List.{list_all}
 use Rattle.slots.specs.Slots.{slot_size}
 use Rattle.pages.specs.Pages.{names_of}
 use Rattle.name_renames.specs.Alone.{alone}
@@ -10,7 +10,7 @@ use Rattle.page_renames.proofs.all_alone.Given as goal
 
 abbrev pub invariant-loop-i : goal.invariant-loop-i
 invariant-loop-i l =
-    (l.n ≡ length l.page / slot_size) × (every (alone l.author (names_of l.log)) (drop l.i (names_of l.page)) ≡ every (alone l.author (names_of l.log)) (names_of l.page))
+    (l.n ≡ length l.page / slot_size) × (list_all (alone l.author (names_of l.log)) (drop l.i (names_of l.page)) ≡ list_all (alone l.author (names_of l.log)) (names_of l.page))
 
 abbrev pub decreases-loop-i : goal.decreases-loop-i
 decreases-loop-i l = l.n - l.i

@@ -7,7 +7,7 @@ use Rattle.names.specs.declared.Author.{Author}
 use Rattle.names.specs.Ordering.{Row}
 use Rattle.names.specs.Names.{fits}
 use Rattle.numbers.specs.Bytes.{Bytes}
-use Rattle.numbers.specs.Lists.{every}
+use Rattle.std.specs.List.{list_all}
 use Rattle.slots.specs.Slots.{slot_size}
 use Rattle.pages.specs.Pages.{names_of}
 use Rattle.name_renames.specs.Renaming.{rename}
@@ -19,7 +19,7 @@ results page log author = map (rename author (names_of log)) (names_of page)
 
 abbrev pub invariant-loop-i : goal.invariant-loop-i
 invariant-loop-i l =
-    (l.n ≡ length l.page / slot_size) × (l.i ≤ l.n) × (every fits (drop l.i (results l.page l.log l.author)) ≡ every fits (results l.page l.log l.author))
+    (l.n ≡ length l.page / slot_size) × (l.i ≤ l.n) × (list_all fits (drop l.i (results l.page l.log l.author)) ≡ list_all fits (results l.page l.log l.author))
 
 abbrev pub decreases-loop-i : goal.decreases-loop-i
 decreases-loop-i l = l.n - l.i

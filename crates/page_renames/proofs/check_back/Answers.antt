@@ -13,7 +13,7 @@ use Rattle.pages.specs.Pages.{names_of}
 use Rattle.name_renames.specs.Renaming.{take_back}
 use Rattle.one_name.specs.Backs.{shape_of}
 use Rattle.one_name.proofs.StemsInBytes.{Tells}
-use Rattle.page_renames.specs.declared.Checked.TheVariants.{Refused, Passed}
+use Rattle.std.specs.declared.result.Result.TheVariants.{Ok, Err}
 use Rattle.page_renames.specs.Renames.{take_back_tests}
 use Rattle.page_renames.proofs.FirstRefusal.{asked, stops}
 use Rattle.page_renames.proofs.BackPairs.{means, tells, deep, apart}
@@ -79,7 +79,7 @@ returns-then-n-i c =
     let e : i ≡ length s / slot_size = omega (arith, c.if-n-i.true, c.loop-i.invariant.0, c.loop-i.invariant.1) in
     let t = results_end s i f fits (omega arith) ∙ c.loop-i.invariant.2 in
     let u = rising_ends s f i e c.loop-i.rises ∙ c.loop-i.invariant.3 in
-    c.check_rising.ensures ∙ (λ k. in_order (t k else TooDeep ∷ u k else NotRisingBack ∷ []) Refused Passed)
+    c.check_rising.ensures ∙ (λ k. in_order (t k else TooDeep ∷ u k else NotRisingBack ∷ []) Err (Ok tt))
 
 pub returns-then-here-gt-LIMIT : goal.returns-then-here-gt-LIMIT
 returns-then-here-gt-LIMIT c =

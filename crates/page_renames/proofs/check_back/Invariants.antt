@@ -6,7 +6,7 @@ use Prim.Native.Nat.{◌-◌, ◌/◌, ◌≤◌}
 use lib.ListN.{length, get_or, drop}
 use Rattle.names.specs.Ordering.{rising}
 use Rattle.names.specs.Names.{fits}
-use Rattle.numbers.specs.Lists.{every}
+use Rattle.std.specs.List.{list_all}
 use Rattle.slots.specs.Slots.{slot_size}
 use Rattle.pages.specs.Pages.{names_of}
 use Rattle.name_renames.specs.Renaming.{take_back}
@@ -19,7 +19,7 @@ abbrev pub invariant-loop-i : goal.invariant-loop-i
 invariant-loop-i l =
     (l.n ≡ length l.page / slot_size)
     × (l.i ≤ l.n)
-    × (every fits (drop l.i (results l.page (take_back l.author (names_of l.log)))) ≡ every fits (results l.page (take_back l.author (names_of l.log))))
+    × (list_all fits (drop l.i (results l.page (take_back l.author (names_of l.log)))) ≡ list_all fits (results l.page (take_back l.author (names_of l.log))))
     × (l.rises && rising (drop (l.i - 1) (results l.page (take_back l.author (names_of l.log)))) ≡ rising (results l.page (take_back l.author (names_of l.log))))
     × (1 ≤ l.i → Tells l.page l.log (get_or (names_of l.page) (l.i - 1) []) l.last (shape_of l.author (names_of l.log) (get_or (names_of l.page) (l.i - 1) [])))
 

@@ -2,7 +2,7 @@
 use mathlib.Core.Path.{refl, ◌∙◌, sym, ap}
 use mathlib.Core.Bool.{Bool, ◌&&◌}
 use Rattle.name_renames.specs.Renaming.{fresh}
-use Rattle.numbers.specs.Lists.{every}
+use Rattle.std.specs.List.{list_all}
 use Rattle.pages.specs.Pages.{names_of}
 use Rattle.answers.specs.Laws.{here, later}
 use Rattle.one_name.proofs.CheckedLog.{logged}
@@ -20,7 +20,7 @@ pub returns-then-not-all_fresh : goal.returns-then-not-all_fresh
 returns-then-not-all_fresh c =
     let a = c.args in
     let tests = rename_tests a.page.now a.log.now a.author in
-    let in_log = every (fresh a.author) (names_of a.log.now) in
+    let in_log = list_all (fresh a.author) (names_of a.log.now) in
     let stale = sym c.all_fresh.ensures ∙ c.if-not-all_fresh.true in
     stops tests (here (ap (λ (b : Bool). b && in_log) stale) refl)
 

@@ -3,7 +3,8 @@ use mathlib.Core.Path.{◌≡◌, ◌∙◌, sym, ap}
 use Prim.Native.Nat.{ℕ, ◌+◌, ◌-◌, ◌*◌, ◌/◌, ◌<◌, ◌≤◌}
 use native.Mathlib.Omega.{arith}
 use lib.ListN.{length}
-use Rattle.names.specs.Ordering.{is_less, compare_rows}
+use Rattle.names.specs.Ordering.{compare_rows}
+use Rattle.std.specs.Ordering.{is_lt}
 use Rattle.slots.specs.Slots.{slot_size, name_of, keeps_slot}
 use Rattle.pages.specs.Pages.{names_of}
 use Rattle.pages.proofs.SlotBySlot.{lent, length_names}
@@ -84,4 +85,4 @@ returns c =
     let log = c.requires.1 in
     let first = (means g author log _ c.back_of-last.ensures (c.span_of.ensures.1 ∙ sym one)).1 ∙ ap f one in
     let second = (means g author log _ c.back_of-here.ensures (c.span_of-2.ensures.1 ∙ sym two)).1 ∙ ap f two in
-    c.backs_rise.ensures ∙ (λ k. is_less (compare_rows (first k) (second k)))
+    c.backs_rise.ensures ∙ (λ k. is_lt (compare_rows (first k) (second k)))

@@ -7,7 +7,8 @@ use native.Mathlib.Omega.{arith}
 use borrow.Author.Tests.{lt-ltb, le-ltb}
 use lib.Dec.{ltb}
 use lib.ListN.{get_or}
-use Rattle.names.specs.Ordering.{is_less, compare_rows}
+use Rattle.names.specs.Ordering.{compare_rows}
+use Rattle.std.specs.Ordering.{is_lt}
 use Rattle.pages.specs.Pages.{names_of}
 use Rattle.name_renames.specs.Renaming.{take_back}
 use Rattle.page_renames.proofs.still_rises.Goals as goal
@@ -17,7 +18,7 @@ returns-then-not-rises c =
     let x = c.args in
     let f = take_back x.author (names_of x.log.now) in
     let s = names_of x.page.now in
-    let less = is_less (compare_rows (f (get_or s (x.i - 1) [])) (f (get_or s x.i []))) in
+    let less = is_lt (compare_rows (f (get_or s (x.i - 1) [])) (f (get_or s x.i []))) in
     ap (λ (b : Bool). b && (ltb x.i 1 || less)) (sym c.if-not-rises.true)
 
 pub returns-then-i-lt1 : goal.returns-then-i-lt1
@@ -25,7 +26,7 @@ returns-then-i-lt1 c =
     let x = c.args in
     let f = take_back x.author (names_of x.log.now) in
     let s = names_of x.page.now in
-    let less = is_less (compare_rows (f (get_or s (x.i - 1) [])) (f (get_or s x.i []))) in
+    let less = is_lt (compare_rows (f (get_or s (x.i - 1) [])) (f (get_or s x.i []))) in
     λ k. sym c.if-not-rises.false k && (sym (lt-ltb x.i 1 c.if-i-lt1.true) k || less)
 
 pub may_meet-requires : goal.may_meet-requires

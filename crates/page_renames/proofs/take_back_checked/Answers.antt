@@ -36,7 +36,7 @@ returns-then-out-page c =
     let room = length a.out.now in
     let fit = back_fit s g a.author in
     let both : (_ ≡ (take_back_outcome c.args.page.now c.args.log.now c.args.author (length c.args.out.now)).answer) × (_ ≡ leaves (take_back_outcome c.args.page.now c.args.log.now c.args.author (length c.args.out.now)) c.args.out.now) =
-    refused _ _ _ (short s g a.author own f fit room c.requires c.check_names-checked.ensures c.in-Passed.is (omega arith))
+    refused _ _ _ (short s g a.author own f fit room c.requires c.check_names-checked.ensures c.in-Ok.is (omega arith))
     in record { value = both.0; out_after = both.1 }
 
 pub write_back-requires : goal.write_back-requires
@@ -49,7 +49,7 @@ write_back-requires c =
     let room = length a.out.now in
     let fit = back_fit s g a.author in
     let v = asked s g a.author c.requires in
-    let fits = all_fit_lem s g a.author own f fit room c.requires c.check_names-checked.ensures c.in-Passed.is in
+    let fits = all_fit_lem s g a.author own f fit room c.requires c.check_names-checked.ensures c.in-Ok.is in
     record {
       page_value = (v.layout, v.logged, omega arith);
       page_value_2 = fits;
@@ -57,9 +57,9 @@ write_back-requires c =
     }
 
 -- the call's own refusals
-pub returns-in-Refused : goal.returns-in-Refused
+pub returns-in-Err : goal.returns-in-Err
 unfolding take_back_outcome
-returns-in-Refused c =
+returns-in-Err c =
     let a = c.args in
     let s = a.page.now in
     let g = a.log.now in
@@ -68,7 +68,7 @@ returns-in-Refused c =
     let room = length a.out.now in
     let fit = back_fit s g a.author in
     let both : (_ ≡ (take_back_outcome c.args.page.now c.args.log.now c.args.author (length c.args.out.now)).answer) × (_ ≡ leaves (take_back_outcome c.args.page.now c.args.log.now c.args.author (length c.args.out.now)) c.args.out.now) =
-    refused _ _ _ (own_refused s g a.author own f fit room c.requires c.check_names-checked.ensures _ c.in-Refused.is)
+    refused _ _ _ (own_refused s g a.author own f fit room c.requires c.check_names-checked.ensures _ c.in-Err.is)
     in record { value = both.0; out_after = both.1 }
 
 pub returns-else-out-page : goal.returns-else-out-page
@@ -81,7 +81,7 @@ returns-else-out-page c =
     let f = take_back a.author (names_of g) in
     let room = length a.out.now in
     let fit = back_fit s g a.author in
-    let whole = done s g a.author own f fit room c.requires c.check_names-checked.ensures c.in-Passed.is (omega arith) in
+    let whole = done s g a.author own f fit room c.requires c.check_names-checked.ensures c.in-Ok.is (omega arith) in
     let both : (_ ≡ (take_back_outcome c.args.page.now c.args.log.now c.args.author (length c.args.out.now)).answer) × (_ ≡ leaves (take_back_outcome c.args.page.now c.args.log.now c.args.author (length c.args.out.now)) c.args.out.now) =
     accepted _ _ _ _ _ whole c.write_back.ensures
     in record { value = both.0; out_after = both.1 }

@@ -1,6 +1,6 @@
 -- `pages::check_log` meets its contract. Assumes nothing.
 use mathlib.Core.Path.{◌∙◌, sym, ap}
-use Rattle.answers.specs.declared.Answer.TheVariants.{Accepted}
+use Rattle.std.specs.declared.result.Result.TheVariants.{Ok}
 use Rattle.pages.specs.Pages.{check_log}
 use Rattle.pages.proofs.SlotBySlot.{length_slots}
 use Rattle.pages.proofs.check_log.Goals as goal
@@ -13,4 +13,4 @@ pub returns : goal.returns
 unfolding check_log
 returns c =
     simp (sym c.log_ok.ensures ∙ c.if-not-log_ok.false)
-    (ap Accepted (sym (length_slots c.args.log.now)))
+    (ap Ok (sym (length_slots c.args.log.now)))

@@ -1,6 +1,6 @@
 -- `pages::check_page` meets its contract. Assumes nothing.
 use mathlib.Core.Path.{sym, ap}
-use Rattle.answers.specs.declared.Answer.TheVariants.{Accepted}
+use Rattle.std.specs.declared.result.Result.TheVariants.{Ok}
 use Rattle.slots.proofs.LookedAt.{tells_broken, tells_falling, tells_rising}
 use Rattle.pages.specs.Pages.{keeps_layout, rises, check_page}
 use Rattle.pages.proofs.SlotBySlot.{length_slots}
@@ -24,4 +24,4 @@ unfolding check_page
 returns-in-Rising c =
     let s = c.args.page.now in
     let told = tells_rising (keeps_layout s) (rises s) (c.in-Rising.ensures) in
-    simp (told.0, told.1) (ap Accepted (sym (length_slots s)))
+    simp (told.0, told.1) (ap Ok (sym (length_slots s)))

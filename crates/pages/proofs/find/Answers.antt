@@ -28,14 +28,14 @@ loop-low-preserved-in-Less c =
     let t = rw (lent_name s (length s / slot_size) m (slot_size * m) refl h) at (less_row _ _ (sym c.compare_slots.ensures ∙ c.in-Less.is)) in
     (omega arith, omega arith, to_left (rising_Rising (names_of s) c.requires.1) m l t, c.loop-low.invariant.3)
 
-pub returns-in-Same : goal.returns-in-Same
-returns-in-Same c =
+pub returns-in-Equal : goal.returns-in-Equal
+returns-in-Equal c =
     let s = c.args.page.now in
     let m = c.loop-low.low + (c.loop-low.high - c.loop-low.low) / 2 in
     let h : m < length s / slot_size = omega arith in
     let l : m < length (names_of s) = rw (length_names s (length s / slot_size)) h in
     found (name_of c.args.slot.now) (names_of s) m (rising_Rising (names_of s) c.requires.1) l
-    (sym (lent_name s (length s / slot_size) m (slot_size * m) refl h) ∙ same_row _ _ (sym c.compare_slots.ensures ∙ c.in-Same.is))
+    (sym (lent_name s (length s / slot_size) m (slot_size * m) refl h) ∙ same_row _ _ (sym c.compare_slots.ensures ∙ c.in-Equal.is))
 
 pub loop-low-preserved : goal.loop-low-preserved
 loop-low-preserved c =
@@ -43,7 +43,7 @@ loop-low-preserved c =
     let m = c.loop-low.low + (c.loop-low.high - c.loop-low.low) / 2 in
     let h : m < length s / slot_size = omega arith in
     let l : m < length (names_of s) = rw (length_names s (length s / slot_size)) h in
-    let t = rw (lent_name s (length s / slot_size) m (slot_size * m) refl h) at (more_row _ _ (sym c.compare_slots.ensures ∙ c.in-More.is)) in
+    let t = rw (lent_name s (length s / slot_size) m (slot_size * m) refl h) at (more_row _ _ (sym c.compare_slots.ensures ∙ c.in-Greater.is)) in
     (omega arith, omega arith, c.loop-low.invariant.2, to_right (rising_Rising (names_of s) c.requires.1) m l t)
 
 pub returns : goal.returns

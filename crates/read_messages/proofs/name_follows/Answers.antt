@@ -5,7 +5,8 @@ use Prim.Native.Nat.{ℕ, ◌≤◌, ◌<◌}
 use native.Mathlib.Omega.{arith}
 use lib.ListN.{length}
 use borrow.Author.Tests.{le-leb, lt-leb}
-use Rattle.names.specs.Ordering.{compare_rows, is_less}
+use Rattle.names.specs.Ordering.{compare_rows}
+use Rattle.std.specs.Ordering.{is_lt}
 use Rattle.names.specs.Names.{limit, is_name}
 use Rattle.slots.specs.Tuples.{tuples_at, row_at}
 use Rattle.slots.proofs.TuplesInBytes.{length_tuples_at}
@@ -19,14 +20,14 @@ returns-then-name-lt1 c =
     let b = row_at s c.args.last in
     let p = c.args.name.at in
     let z : c.args.name.count ≡ 0 = omega arith in
-    sym (ap (λ (n : ℕ). name_fits (tuples_at s p n) && is_less (compare_rows b (tuples_at s p n))) z)
+    sym (ap (λ (n : ℕ). name_fits (tuples_at s p n) && is_lt (compare_rows b (tuples_at s p n))) z)
 
 pub returns-then-name-gt-LIMIT : goal.returns-then-name-gt-LIMIT
 returns-then-name-gt-LIMIT c =
     let s = c.args.message.now in
     let n = c.args.name.count in
     let a = tuples_at s c.args.name.at n in
-    let less = is_less (compare_rows (row_at s c.args.last) a) in
+    let less = is_lt (compare_rows (row_at s c.args.last) a) in
     let l : limit < length a = let q = length_tuples_at s c.args.name.at n in omega arith in
     sym (ap (λ (b : Bool). (is_name a && b) && less) (lt-leb (length a) limit l) ∙ ap (λ (b : Bool). b && less) (and-false (is_name a)))
 
@@ -42,6 +43,6 @@ returns c =
     let s = c.args.message.now in
     let n = c.args.name.count in
     let a = tuples_at s c.args.name.at n in
-    let less = is_less (compare_rows (row_at s c.args.last) a) in
+    let less = is_lt (compare_rows (row_at s c.args.last) a) in
     let l : length a ≤ limit = let q = length_tuples_at s c.args.name.at n in omega arith in
     c.follows.ensures ∙ sym (ap (λ (b : Bool). (is_name a && b) && less) (le-leb (length a) limit l) ∙ ap (λ (b : Bool). b && less) (and-true (is_name a)))

@@ -8,7 +8,7 @@ use borrow.Author.Tests.{not-true, not-false}
 use Rattle.names.specs.Ordering.{Row}
 use Rattle.numbers.specs.Bytes.{put}
 use Rattle.slots.specs.Slots.{slot_size}
-use Rattle.answers.specs.declared.Answer.TheVariants.{Accepted}
+use Rattle.std.specs.declared.result.Result.TheVariants.{Ok}
 use Rattle.answers.specs.declared.Refusal.TheVariants.{Malformed, Short}
 use Rattle.answers.specs.Answers.{Outcome}
 use Rattle.answers.proofs.Outcomes.{refused, accepted}
@@ -70,7 +70,7 @@ returns c =
     let n = ap (λ (t : Told). t.names) is in
     let all = slots_with (names_in s) in
     let l : slot_size * length (names_in s) ≤ length o = let z = c.if-out-told.false in omega arith in
-    let e = read_done s (length o) h l ∙ (λ i. record { answer = Accepted (sym n i); bytes = all }) in
+    let e = read_done s (length o) h l ∙ (λ i. record { answer = Ok (sym n i); bytes = all }) in
     let w = c.write_slots.ensures ∙ ap (λ (r : List Row). put o 0 (slots_with r)) (names_told s h count n) in
     let f = accepted (read_outcome s (length o)) count all o c.write_slots.new.out e w in
     let given = ap (λ (x : Outcome). given_by x.answer (numbers_in s)) e in

@@ -5,9 +5,10 @@ use native.Mathlib.Decide.{dec_le}
 use native.Mathlib.Omega.{arith}
 use lib.ListN.{length, get_or}
 use lib.Seq.{take_all}
-use Rattle.names.specs.declared.Order.{Order}
+use Rattle.std.specs.declared.cmp.Ordering.{Ordering}
 use Rattle.names.specs.declared.Tuple.{Tuple}
-use Rattle.names.specs.Ordering.{Row, then, is_less, compare_tuples, compare_rows}
+use Rattle.names.specs.Ordering.{Row, compare_tuples, compare_rows}
+use Rattle.std.specs.Ordering.{ordering_then, is_lt}
 use Rattle.names.specs.Names.{m}
 use Rattle.names.proofs.CompareTuples.{left, left_same, left_less, left_more, left_at}
 use Rattle.renamed_slots.proofs.backs_rise.Goals as goal
@@ -22,20 +23,20 @@ module _ (a b : Row) (n k i : ℕ) (e : n ≡ length a) (f : k ≡ length b) whe
   long' = omega arith
 
   -- nothing is below a row of no tuples
-  none_left : k ≤ i → false ≡ is_less (left a b n k i)
+  none_left : k ≤ i → false ≡ is_lt (left a b n k i)
   none_left h = elim (dec_le n i) [
-    | yes g ↦ ap is_less (left_same a b n k i m long long' g h)
-    | no g ↦ ap is_less (left_more a b n k i m long long' (omega arith) h)
+    | yes g ↦ ap is_lt (left_same a b n k i m long long' g h)
+    | no g ↦ ap is_lt (left_more a b n k i m long long' (omega arith) h)
   ]
 
   -- "a proper prefix is smaller"
-  prefix : n ≤ i → i < k → true ≡ is_less (left a b n k i)
-  prefix g h = ap is_less (left_less a b n k i m long long' g h)
+  prefix : n ≤ i → i < k → true ≡ is_lt (left a b n k i)
+  prefix g h = ap is_lt (left_less a b n k i m long long' g h)
 
   -- the tuples at i compare as o
-  turn : {s t : Tuple} {r o : Order} → s ≡ get_or a i m → t ≡ get_or b i m → r ≡ compare_tuples s t → r ≡ o → i < n → i < k →
-      is_less (then o (left a b n k (i + 1))) ≡ is_less (left a b n k i)
-  turn p q c d g h = ap is_less (left_at a b n k i m long long' (sym d ∙ c ∙ (λ j. compare_tuples (p j) (q j))) g h)
+  turn : {s t : Tuple} {r o : Ordering} → s ≡ get_or a i m → t ≡ get_or b i m → r ≡ compare_tuples s t → r ≡ o → i < n → i < k →
+      is_lt (ordering_then o (left a b n k (i + 1))) ≡ is_lt (left a b n k i)
+  turn p q c d g h = ap is_lt (left_at a b n k i m long long' (sym d ∙ c ∙ (λ j. compare_tuples (p j) (q j))) g h)
 
 pub loop-i-init : goal.loop-i-init
 loop-i-init c =
@@ -46,7 +47,7 @@ loop-i-init c =
     let k = c.count_back-m.result in
     let e = c.count_back-n.ensures in
     let f = c.count_back-m.ensures in
-    (e, f, λ i. is_less (compare_rows (take_all n a (omega (arith, e)) i) (take_all k b (omega (arith, f)) i)))
+    (e, f, λ i. is_lt (compare_rows (take_all n a (omega (arith, e)) i) (take_all k b (omega (arith, f)) i)))
 
 pub tuple_back-requires : goal.tuple_back-requires
 tuple_back-requires c = (c.requires.first_value.0, c.requires.first_value.2, c.requires.stands.0, omega (arith, c.if-n-i.false, c.loop-i.invariant.0))
@@ -57,7 +58,7 @@ tuple_back-requires-in-loop-i c = (c.requires.first_value.1, c.requires.first_va
 pub loop-i-preserved : goal.loop-i-preserved
 loop-i-preserved c =
     let v = c.loop-i.invariant in
-    (v.0, v.1, turn _ _ _ _ _ v.0 v.1 c.tuple_back.ensures c.tuple_back-in-loop-i.ensures c.compare_tuples.ensures c.in-Same.is c.if-n-i.false c.if-m-i.false ∙ v.2)
+    (v.0, v.1, turn _ _ _ _ _ v.0 v.1 c.tuple_back.ensures c.tuple_back-in-loop-i.ensures c.compare_tuples.ensures c.in-Equal.is c.if-n-i.false c.if-m-i.false ∙ v.2)
 
 pub returns-then-m-i : goal.returns-then-m-i
 returns-then-m-i c =
@@ -74,7 +75,7 @@ returns-in-Less c =
     let v = c.loop-i.invariant in
     turn _ _ _ _ _ v.0 v.1 c.tuple_back.ensures c.tuple_back-in-loop-i.ensures c.compare_tuples.ensures c.in-Less.is c.if-n-i.false c.if-m-i.false ∙ v.2
 
-pub returns-in-More : goal.returns-in-More
-returns-in-More c =
+pub returns-in-Greater : goal.returns-in-Greater
+returns-in-Greater c =
     let v = c.loop-i.invariant in
-    turn _ _ _ _ _ v.0 v.1 c.tuple_back.ensures c.tuple_back-in-loop-i.ensures c.compare_tuples.ensures c.in-More.is c.if-n-i.false c.if-m-i.false ∙ v.2
+    turn _ _ _ _ _ v.0 v.1 c.tuple_back.ensures c.tuple_back-in-loop-i.ensures c.compare_tuples.ensures c.in-Greater.is c.if-n-i.false c.if-m-i.false ∙ v.2

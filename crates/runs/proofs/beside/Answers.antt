@@ -13,19 +13,19 @@ returns-in-Less c =
     beside_short c.args.a.now x.at x.count c.args.b.now y.at y.count c.requires.2 c.if-y-last.true
     c.compare_rows.ensures c.in-Less.is
 
-pub returns-in-Same : goal.returns-in-Same
-returns-in-Same c =
+pub returns-in-Equal : goal.returns-in-Equal
+returns-in-Equal c =
     let x = c.args.x in
     let y = c.args.y in
     beside_short c.args.a.now x.at x.count c.args.b.now y.at y.count c.requires.2 c.if-y-last.true
-    c.compare_rows.ensures c.in-Same.is
+    c.compare_rows.ensures c.in-Equal.is
 
-pub returns-in-More : goal.returns-in-More
-returns-in-More c =
+pub returns-in-Greater : goal.returns-in-Greater
+returns-in-Greater c =
     let x = c.args.x in
     let y = c.args.y in
     beside_short c.args.a.now x.at x.count c.args.b.now y.at y.count c.requires.2 c.if-y-last.true
-    c.compare_rows.ensures c.in-More.is
+    c.compare_rows.ensures c.in-Greater.is
 
 pub beside_tuples-requires : goal.beside_tuples-requires
 beside_tuples-requires c =
@@ -41,17 +41,17 @@ returns-in-Less-compare_rows c =
     beside_long c.args.a.now x.at x.count c.args.b.now y.at y.count c.requires.2 c.if-y-last.false
     c.compare_rows-2.ensures c.in-Less-compare_rows.is
 
-pub returns-in-Same-compare_rows : goal.returns-in-Same-compare_rows
-returns-in-Same-compare_rows c =
+pub returns-in-Equal-compare_rows : goal.returns-in-Equal-compare_rows
+returns-in-Equal-compare_rows c =
     let x = c.args.x in
     let y = c.args.y in
     c.beside_tuples.ensures
     ∙ beside_long c.args.a.now x.at x.count c.args.b.now y.at y.count c.requires.2 c.if-y-last.false
-    c.compare_rows-2.ensures c.in-Same-compare_rows.is
+    c.compare_rows-2.ensures c.in-Equal-compare_rows.is
 
-pub returns-in-More-compare_rows : goal.returns-in-More-compare_rows
-returns-in-More-compare_rows c =
+pub returns-in-Greater-compare_rows : goal.returns-in-Greater-compare_rows
+returns-in-Greater-compare_rows c =
     let x = c.args.x in
     let y = c.args.y in
     beside_long c.args.a.now x.at x.count c.args.b.now y.at y.count c.requires.2 c.if-y-last.false
-    c.compare_rows-2.ensures c.in-More-compare_rows.is
+    c.compare_rows-2.ensures c.in-Greater-compare_rows.is

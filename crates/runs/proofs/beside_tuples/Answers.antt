@@ -6,7 +6,7 @@ use lib.IntN.{ℤ}
 use mir.Syntax.{w32}
 use mir.Val.{to_z, of_z, SFits}
 use mir.ValLaws.{to_z-of_z}
-use Rattle.names.specs.declared.Order.{Order}
+use Rattle.std.specs.declared.cmp.Ordering.{Ordering}
 use Rattle.names.specs.Ordering.{compare_ℕ}
 use Rattle.names.proofs.Laws.{ℕ_less, ℕ_same, ℕ_more}
 use Rattle.numbers.specs.Bytes.{Bytes, Octets, at32, at64, signed}
@@ -18,9 +18,9 @@ use borrow.Author.Rules.{rules}
 use Rattle.runs.proofs.beside_tuples.Goals as goal
 
 -- numbers that are those of the first eight bytes of two tuples compare as these do by all but the offset
-by_fronts : (a : Bytes) (p : ℕ) (b : Bytes) (q : ℕ) {x y : ℕ} {o : Order} (r : Stand) →
+by_fronts : (a : Bytes) (p : ℕ) (b : Bytes) (q : ℕ) {x y : ℕ} {o : Ordering} (r : Stand) →
     Octets a → Octets b → x ≡ at64 a p → y ≡ at64 b q → compare_ℕ x y ≡ o → decided o r ≡ decided (compare_fronts (tuple_at a p) (tuple_at b q)) r
-by_fronts a p b q r k l e f g = ap (λ (o : Order). decided o r) (sym g ∙ (λ i. compare_ℕ (e i) (f i)) ∙ fronts_at a p b q k l)
+by_fronts a p b q r k l e f g = ap (λ (o : Ordering). decided o r) (sym g ∙ (λ i. compare_ℕ (e i) (f i)) ∙ fronts_at a p b q k l)
 
 -- the offset of the tuple at p as the code has it
 offset_at : (s : Bytes) (p : ℕ) {v : ℕ} {z : ℤ} → SFits w32 z → z ≡ signed v → v ≡ at32 s (p + 8) → to_z w32 (of_z w32 z) ≡ (tuple_at s p).offset

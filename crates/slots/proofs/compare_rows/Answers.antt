@@ -12,7 +12,7 @@ compare_tuples-requires c = (omega arith, omega arith)
 
 pub loop-i-preserved : goal.loop-i-preserved
 loop-i-preserved c =
-    let turn = left_at _ _ _ _ _ _ _ c.compare_tuples.ensures c.in-Same.is c.if-n-i.false c.if-m-i-2.false in
+    let turn = left_at _ _ _ _ _ _ _ c.compare_tuples.ensures c.in-Equal.is c.if-n-i.false c.if-m-i-2.false in
     (omega arith, omega arith, turn ∙ c.loop-i.invariant.2)
 
 pub returns-then-m-i : goal.returns-then-m-i
@@ -27,5 +27,5 @@ returns-then-m-i-2 c = left_more _ _ _ _ _ _ _ c.if-n-i.false c.if-m-i-2.true �
 pub returns-in-Less : goal.returns-in-Less
 returns-in-Less c = left_at _ _ _ _ _ _ _ c.compare_tuples.ensures c.in-Less.is c.if-n-i.false c.if-m-i-2.false ∙ c.loop-i.invariant.2
 
-pub returns-in-More : goal.returns-in-More
-returns-in-More c = left_at _ _ _ _ _ _ _ c.compare_tuples.ensures c.in-More.is c.if-n-i.false c.if-m-i-2.false ∙ c.loop-i.invariant.2
+pub returns-in-Greater : goal.returns-in-Greater
+returns-in-Greater c = left_at _ _ _ _ _ _ _ c.compare_tuples.ensures c.in-Greater.is c.if-n-i.false c.if-m-i-2.false ∙ c.loop-i.invariant.2

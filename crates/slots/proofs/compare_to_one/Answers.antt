@@ -17,7 +17,7 @@ returns-then-n-lt2 c =
     let x = c.args in
     let l = length_tuples_at x.a.now x.p x.n in
     after_same (tuples_at x.a.now x.p x.n) (omega arith)
-    ∙ first_tuple x.a.now x.p x.n x.t (omega arith) c.compare_tuple.ensures c.in-Same.is
+    ∙ first_tuple x.a.now x.p x.n x.t (omega arith) c.compare_tuple.ensures c.in-Equal.is
 
 pub returns-in-Less : goal.returns-in-Less
 returns-in-Less c =
@@ -29,9 +29,9 @@ returns-else-n-lt2 c =
     let x = c.args in
     let l = length_tuples_at x.a.now x.p x.n in
     after_more (tuples_at x.a.now x.p x.n) (omega arith)
-    ∙ first_tuple x.a.now x.p x.n x.t (omega arith) c.compare_tuple.ensures c.in-Same.is
+    ∙ first_tuple x.a.now x.p x.n x.t (omega arith) c.compare_tuple.ensures c.in-Equal.is
 
-pub returns-in-More : goal.returns-in-More
-returns-in-More c =
+pub returns-in-Greater : goal.returns-in-Greater
+returns-in-Greater c =
     let x = c.args in
-    first_tuple x.a.now x.p x.n x.t (omega arith) c.compare_tuple.ensures c.in-More.is
+    first_tuple x.a.now x.p x.n x.t (omega arith) c.compare_tuple.ensures c.in-Greater.is

@@ -1,6 +1,7 @@
 -- `slots::follows` meets its contract. Assumes nothing.
 use Rattle.std.proofs.Common.{◌&&◌, sym, ap, ◌∙◌, arith}
-use Rattle.names.specs.Ordering.{compare_rows, is_less}
+use Rattle.names.specs.Ordering.{compare_rows}
+use Rattle.std.specs.Ordering.{is_lt}
 use Rattle.slots.specs.Tuples.{tuples_at}
 use Rattle.slots.specs.Looks.{leads}
 use Rattle.slots.proofs.NameTests.{leads_fewer}
@@ -17,7 +18,7 @@ pub returns-then-not-name_from : goal.returns-then-not-name_from
 returns-then-not-name_from c =
     let x = c.args in
     let named = sym c.if-not-name_from.true ∙ c.name_from.ensures in
-    λ j. named j && is_less (compare_rows (tuples_at x.a.now x.p x.n) (tuples_at x.s.now x.q x.d))
+    λ j. named j && is_lt (compare_rows (tuples_at x.a.now x.p x.n) (tuples_at x.s.now x.q x.d))
 
 pub returns : goal.returns
 returns c =

@@ -1,6 +1,7 @@
 -- `slots::look_after` meets its contract. Assumes nothing.
 use Rattle.std.proofs.Common.{sym, refl, ap, ◌∙◌, arith}
-use Rattle.names.specs.Ordering.{compare_rows, is_less}
+use Rattle.names.specs.Ordering.{compare_rows}
+use Rattle.std.specs.Ordering.{is_lt}
 use Rattle.slots.specs.Tuples.{tuples_at}
 use Rattle.slots.specs.Slots.{head_size}
 use Rattle.slots.specs.Looks.{leads, seen}
@@ -47,8 +48,8 @@ returns-then-not-zero_after c =
     let rest = sym c.if-not-zero_after.true ∙ c.zero_after.ensures in
     broken room s a (kept_by room s c.requires.s_len.0 d head c.depth_over-d.ensures named rest)
 
-pub returns-then-is_less : goal.returns-then-is_less
-returns-then-is_less c =
+pub returns-then-is_lt : goal.returns-then-is_lt
+returns-then-is_lt c =
     let s = c.args.s.now in
     let room = c.args.room in
     let d = c.depth_over-d.result in
@@ -62,11 +63,11 @@ returns-then-is_less c =
     c.compare_rows.ensures
     ∙ alike_compare c.args.a.now head_size s head_size i c.alike-i.ensures.upper_bound.2 c.args.n d c.alike-i.ensures.upper_bound.0 c.alike-i.ensures.upper_bound.1
     ∙ ap (compare_rows a) (name_over_lem room s d c.depth_over-d.ensures) in
-    let rises = sym c.if-is_less.true ∙ c.is_less.ensures ∙ ap is_less order in
+    let rises = sym c.if-is_lt.true ∙ c.is_lt.ensures ∙ ap is_lt order in
     λ j. seen (keeps j) (rises j)
 
-pub returns-else-is_less : goal.returns-else-is_less
-returns-else-is_less c =
+pub returns-else-is_lt : goal.returns-else-is_lt
+returns-else-is_lt c =
     let s = c.args.s.now in
     let room = c.args.room in
     let d = c.depth_over-d.result in
@@ -80,5 +81,5 @@ returns-else-is_less c =
     c.compare_rows.ensures
     ∙ alike_compare c.args.a.now head_size s head_size i c.alike-i.ensures.upper_bound.2 c.args.n d c.alike-i.ensures.upper_bound.0 c.alike-i.ensures.upper_bound.1
     ∙ ap (compare_rows a) (name_over_lem room s d c.depth_over-d.ensures) in
-    let rises = sym c.if-is_less.false ∙ c.is_less.ensures ∙ ap is_less order in
+    let rises = sym c.if-is_lt.false ∙ c.is_lt.ensures ∙ ap is_lt order in
     λ j. seen (keeps j) (rises j)

@@ -1,7 +1,7 @@
 -- `slots::same_tuples` meets its contract. Assumes nothing.
 use Rattle.std.proofs.Common.{ap, ◌∙◌}
-use Rattle.names.specs.Ordering.{is_same}
+use Rattle.std.specs.Ordering.{is_eq}
 use Rattle.slots.proofs.same_tuples.Goals as goal
 
 pub returns : goal.returns
-returns c = c.is_same.ensures ∙ ap is_same c.compare_tuples.ensures
+returns c = c.is_eq.ensures ∙ ap is_eq c.compare_tuples.ensures

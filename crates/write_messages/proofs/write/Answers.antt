@@ -3,7 +3,7 @@ use mathlib.Core.Path.{◌∙◌, sym}
 use Prim.Native.Nat.{◌<◌, ◌≤◌}
 use native.Mathlib.Omega.{arith}
 use lib.ListN.{length}
-use Rattle.answers.specs.declared.Answer.TheVariants.{Accepted}
+use Rattle.std.specs.declared.result.Result.TheVariants.{Ok}
 use Rattle.answers.specs.declared.Refusal.TheVariants.{Malformed, Short}
 use Rattle.answers.proofs.Outcomes.{refused, accepted}
 use Rattle.messages.specs.Messages.{message_bytes}
@@ -49,7 +49,7 @@ returns c =
     let h = sym c.may_write.ensures ∙ c.if-not-may_write.false in
     let z = c.message_size-size.ensures in
     let l : length w ≤ length o = omega arith in
-    let e = write_done x s (length o) h l ∙ (λ i. record { answer = Accepted (sym z i); bytes = w }) in
+    let e = write_done x s (length o) h l ∙ (λ i. record { answer = Ok (sym z i); bytes = w }) in
     let both : (_ ≡ (write_outcome c.args.numbers c.args.names.now (length c.args.out.now)).answer) × (_ ≡ leaves (write_outcome c.args.numbers c.args.names.now (length c.args.out.now)) c.args.out.now) =
     accepted (write_outcome x s (length o)) c.message_size-size.result w o c.write_fields.new.out e c.write_fields.ensures
     in record { value = both.0; out_after = both.1 }
