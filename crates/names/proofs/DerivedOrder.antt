@@ -1,4 +1,5 @@
--- The derived order of tuples, field by field, is the comparison of 01 (`tuples_ordered`), and that of slices the comparison of rows (`rows_ordered`).
+-- The derived order of numbers (`nat_is`, `int_is`) and of tuples, field by field, is the comparison of 01 (`tuples_ordered`), and that of slices the comparison
+-- of rows (`rows_ordered`).
 -- Assumes nothing.
 use mathlib.Core.Path.{◌≡◌, refl}
 use mathlib.Core.List.{[], ◌∷◌}
@@ -21,7 +22,7 @@ ranked _ (below h) = h
 ranked _ (level h) = h
 ranked _ (above h) = h
 
-nat_is : (a b : ℕ) → compare_ℕ a b ≡ nat_cmp a b
+pub nat_is : (a b : ℕ) → compare_ℕ a b ≡ nat_cmp a b
 nat_is a b = nat_cmp_is a b (compare_ℕ a b) (ranked (compare_ℕ a b) (tri_ℕ a b))
 
 tests_are : (p q : Bool) → by_tests p q ≡ cond p Less (cond q Greater Equal)
@@ -29,7 +30,7 @@ tests_are true q = refl
 tests_are false true = refl
 tests_are false false = refl
 
-int_is : (a b : ℤ) → compare_ℤ a b ≡ int_cmp a b
+pub int_is : (a b : ℤ) → compare_ℤ a b ≡ int_cmp a b
 int_is a b = tests_are (lt_z a b) (lt_z b a)
 
 pub tuples_ordered : (s t : Tuple) → ordering_then (nat_cmp s.position t.position) (ordering_then (nat_cmp s.node t.node) (ordering_then (nat_cmp s.sequence t.sequence) (int_cmp s.offset t.offset))) ≡ compare_tuples s t
@@ -42,3 +43,12 @@ rows_ordered R f [] [] = refl
 rows_ordered R f [] (t ∷ b) = refl
 rows_ordered R f (s ∷ a) [] = refl
 rows_ordered R f (s ∷ a) (t ∷ b) = λ i. ordering_then (f s t i) (rows_ordered R f a b i)
+
+-- numbers that differ decide
+pub differ_decides : (a b : ℕ) (o : Ordering) → ¬ (a ≡ b) → compare_ℕ a b ≡ ordering_then (compare_ℕ a b) o
+differ_decides a b o f = go (compare_ℕ a b) (tri_ℕ a b)
+  where
+    go : (r : Ordering) → Tri ◌<◌ a b r → r ≡ ordering_then r o
+    go _ (below h) = refl
+    go _ (level e) = absurd (f e)
+    go _ (above h) = refl

@@ -22,13 +22,12 @@ pub fn read_low32(s: &[u8], p: usize) -> u32
     u32::from_le_bytes([s[p], s[p + 1], s[p + 2], s[p + 3]])
 }
 
-// The big-endian number of four bytes: one load, and the bytes turned round, which the compiler leaves out where two such numbers are only
-// told apart.
+// The big-endian number of four bytes.
 pub fn read_u32(s: &[u8], p: usize) -> u32
     requires { p + 4 ≤ length s.now }
     ensures { result ≡ at32 s.now p }
 {
-    read_low32(s, p).swap_bytes()
+    u32::from_be_bytes([s[p], s[p + 1], s[p + 2], s[p + 3]])
 }
 
 // The big-endian number of eight bytes: position, node and sequence of a tuple at once.
@@ -36,7 +35,16 @@ pub fn read_u64(s: &[u8], p: usize) -> u64
     requires { p + 8 ≤ length s.now }
     ensures { result ≡ at64 s.now p }
 {
-    u64::from(read_u32(s, p)) * 4294967296 + u64::from(read_u32(s, p + 4))
+    u64::from_be_bytes([
+        s[p],
+        s[p + 1],
+        s[p + 2],
+        s[p + 3],
+        s[p + 4],
+        s[p + 5],
+        s[p + 6],
+        s[p + 7],
+    ])
 }
 
 // "offsets in two's complement"
@@ -77,10 +85,13 @@ pub fn write_zeros(out: &mut [u8], p: usize, n: usize)
     out[p..p + 4 * n].fill(0);
 }
 
-// Writes src into out from p on.
+// Writes src into out from p on. A loop, and not `copy_from_slice`: of a length that is not constant that calls memmove, and the header asks for
+// memset and memcpy alone.
 pub fn copy(out: &mut [u8], p: usize, src: &[u8])
     requires { p + length src.now ≤ length out.old }
     ensures { out.new ≡ put out.old p src.now }
 {
-    out[p..p + src.len()].copy_from_slice(src);
+    for i in 0..src.len() {
+        out[p + i] = src[i];
+    }
 }

@@ -18,7 +18,7 @@ use Rattle.slots.proofs.TuplesInBytes.{tuples_on, tuples_within}
 use Rattle.slots.proofs.NameTests.{name_is}
 use Rattle.numbers.proofs.Every.{every_at, every_each, every_end}
 use Rattle.numbers.proofs.Parts.{length_parts as length_equal, get_or_parts, parts_first, parts_none}
-use Rattle.pages.specs.Pages.{parts_over, names_over, parts, parts_of, slots_of, name_in}
+use Rattle.pages.specs.Pages.{parts_over, names_over, slots_over, parts, parts_of, slots_of, name_in}
 
 -- ── slots with room for so many tuples: the first of those from `at` on, and the rest ──
 
@@ -123,6 +123,9 @@ rising_one a = refl
 pub rising_none : rising [] ≡ true
 unfolding rising
 rising_none = refl
+
+pub length_slots_over : (room : ℕ) (s : Bytes) → length s / size_over room ≡ length (slots_over room s)
+length_slots_over room s = sym (length-map (parts_over room s) (slot_over room) ∙ length_equal (size_over room) (length s / size_over room) s)
 
 pub length_slots : (s : Bytes) → length (slots_of s) ≡ length s / slot_size
 length_slots s = length-map (parts_of s) slot_of ∙ length_parts (length s / slot_size) s

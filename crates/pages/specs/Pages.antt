@@ -79,9 +79,12 @@ is_log s = keeps_layout s && rises s && leb 1 (length (slots_of s)) && list_all 
 
 -- ── the checks ──
 
--- "1: a page (its order apart) or given slot breaks its layout; 2: page names not strictly rising"
-unfoldable pub check_page : Bytes → Answer
-check_page s = check (keeps_layout s else BadLayout ∷ rises s else NotRising ∷ []) (length (slots_of s))
+-- "1: a page (its order apart) or given slot breaks its layout; 2: page names not strictly rising"; with room for so many tuples in a slot
+unfoldable pub check_over : ℕ → Bytes → Answer
+check_over room s = check (layout_over room s else BadLayout ∷ rises_over room s else NotRising ∷ []) (length (slots_over room s))
+
+abbrev pub check_page : Bytes → Answer
+check_page s = check_over limit s
 
 -- "3: log breaks its layout, is empty, not rising, or has a line number other than 0"
 unfoldable pub check_log : Bytes → Answer

@@ -7,9 +7,10 @@ ghost use Rattle.std.specs.Prelude.{◌≡◌, true, ◌+◌, ◌≤◌, [], len
 ghost use Rattle.names.specs.Names.{limit, row_of};
 ghost use Rattle.slots.specs.Tuples.{row_at, Lies};
 ghost use Rattle.std.specs.List.{list_all};
-ghost use Rattle.slots.specs.Slots.{keeps_over, slot_size, name_of, keeps_slot};
+ghost use Rattle.numbers.specs.Bytes.{is_zero};
+ghost use Rattle.slots.specs.Slots.{keeps_over, slot_size, line_of, name_of, keeps_slot};
 ghost use Rattle.slots.specs.Looks.{seen};
-ghost use Rattle.pages.specs.Pages.{parts_over, rises_over, slots_of, names_of, rises, line_is_zero, keeps_layout, is_log, check_page, check_log};
+ghost use Rattle.pages.specs.Pages.{parts_over, rises_over, parts_of, names_of, rises, line_is_zero, keeps_layout, is_log, check_over, check_page, check_log};
 ghost use Rattle.pages.specs.Looks.{seen_over, seen_in};
 ghost use Rattle.pages.specs.Places.{place_of};
 
@@ -91,47 +92,52 @@ pub fn slot_ok(slot: &[u8]) -> bool
     }
 }
 
-// The line number of every slot is 0.
-fn lines_are_zero(page: &[u8]) -> bool
-    ensures { result ≡ list_all line_is_zero (slots_of page.now) }
+// 1, 2; else the count of the slots, each with room for so many tuples.
+pub fn check_over(page: &[u8], room: usize) -> Answer
+    requires { room ≤ limit }
+    ensures { result ≡ check_over room page.now }
 {
-    let n = page.len() / SLOT;
-    let mut k: usize = 0;
-    while k < n {
-        let at = SLOT * k;
-        let end = at + SLOT;
-        if slots::read_line(&page[at..end]) != 0 {
-            return false;
-        }
-        k += 1;
+    match look_over(page, room) {
+        Seen::Broken => Err(Refusal::BadLayout),
+        Seen::NotRising => Err(Refusal::NotRising),
+        Seen::Rising => Ok(page.len() / (HEAD + TUPLE * room)),
     }
-    true
-}
-
-// "A log is a page of 1..256 slots whose line numbers are 0."
-pub fn log_ok(log: &[u8]) -> bool
-    ensures { result ≡ is_log log.now }
-{
-    match look(log) {
-        Seen::Broken => return false,
-        Seen::NotRising => return false,
-        Seen::Rising => {}
-    }
-    if log.len() < SLOT {
-        return false;
-    }
-    lines_are_zero(log)
 }
 
 // 1, 2; else the count of the page's slots.
 pub fn check_page(page: &[u8]) -> Answer
     ensures { result ≡ check_page page.now }
 {
-    match look(page) {
-        Seen::Broken => Err(Refusal::BadLayout),
-        Seen::NotRising => Err(Refusal::NotRising),
-        Seen::Rising => Ok(page.len() / SLOT),
+    check_over(page, LIMIT)
+}
+
+// The line number in a slot is 0.
+fn line_is_zero(slot: &[u8]) -> bool
+    requires { length slot.now ≡ slot_size }
+    ensures { result ≡ is_zero (line_of slot.now) }
+{
+    slots::read_line(slot) == 0
+}
+
+// The line number of every slot is 0.
+fn lines_are_zero(page: &[u8]) -> bool
+    ensures { result ≡ list_all (λ s. is_zero (line_of s)) (parts_of page.now) }
+{
+    let (slots, _) = page.as_chunks::<SLOT>();
+    slots.iter().all(|slot| line_is_zero(slot))
+}
+
+// "A log is a page of 1..256 slots whose line numbers are 0."
+pub fn log_ok(log: &[u8]) -> bool
+    ensures { result ≡ is_log log.now }
+{
+    if check_page(log).is_err() {
+        return false;
     }
+    if log.len() < SLOT {
+        return false;
+    }
+    lines_are_zero(log)
 }
 
 // 3; else the count of the log's slots.
@@ -150,10 +156,10 @@ pub fn span_of(page: &[u8], k: usize) -> Span
 {
     if k < page.len() / SLOT {
         let at = SLOT * k;
-        let end = at + SLOT;
-        let count = slots::depth(&page[at..end]);
-        let tuples = at + HEAD;
-        return Span { at: tuples, count };
+        return Span {
+            at: at + HEAD,
+            count: slots::depth(&page[at..at + SLOT]),
+        };
     }
     Span { at: 0, count: 0 }
 }

@@ -152,12 +152,9 @@ fn compare_parts(x: u64, u: u32, y: u64, v: u32) -> Ordering
     ensures { result ≡ ordering_then (compare_ℕ x y) (compare_ℕ u v) }
 {
     if x == y {
-        return names::compare_numbers(u, v);
+        return u.cmp(&v);
     }
-    if x < y {
-        return Ordering::Less;
-    }
-    Ordering::Greater
+    x.cmp(&y)
 }
 
 // The tuples that stand at p and at q.

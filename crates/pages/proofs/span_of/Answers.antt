@@ -13,8 +13,8 @@ pub returns-then-k-page : goal.returns-then-k-page
 returns-then-k-page c =
     let s = c.args.page.now in
     let k = c.args.k in
-    let d = c.depth-count.ensures in
-    ((omega (arith, d), omega (arith, d)), lent_tuples s (length s / slot_size) k (slot_size * k) refl c.if-k-page.true c.depth-count.result d)
+    let d = c.depth.ensures in
+    ((omega (arith, d), omega (arith, d)), lent_tuples s (length s / slot_size) k (slot_size * k) refl c.if-k-page.true c.depth.result d)
 
 pub returns : goal.returns
 returns c =
