@@ -344,11 +344,7 @@ fn target(tree: &[u8; TABLE], size: usize) -> usize
 // ── the next step ──
 
 // What comes back of a question for the next step.
-#[derive(Clone, Copy)]
-pub enum Next {
-    Take(Step),
-    Refused(Refusal),
-}
+pub type Next = Result<Step, Refusal>;
 
 // 0 stay, 1 up, 2 down.
 fn number_of(s: Step) -> u8
@@ -367,8 +363,7 @@ fn index_of(s: Step) -> usize
 {
     match s {
         Step::Stay => 0,
-        Step::Up(i) => i,
-        Step::Down(i) => i,
+        Step::Up(i) | Step::Down(i) => i,
     }
 }
 
@@ -376,29 +371,20 @@ fn index_of(s: Step) -> usize
 pub fn step_number(n: Next) -> u8
     ensures { result ≡ number_in n }
 {
-    match n {
-        Next::Take(s) => number_of(s),
-        Next::Refused(_) => 0,
-    }
+    n.map_or(0, number_of)
 }
 
 pub fn step_index(n: Next) -> usize
     ensures { result ≡ index_in n }
 {
-    match n {
-        Next::Take(s) => index_of(s),
-        Next::Refused(_) => 0,
-    }
+    n.map_or(0, index_of)
 }
 
 // The answer in what comes back, whose count is 0.
 pub fn answer(n: Next) -> Answer
     ensures { result ≡ answer_of n }
 {
-    match n {
-        Next::Take(_) => Ok(0),
-        Next::Refused(r) => Err(r),
-    }
+    n.map(|_| 0)
 }
 
 // Of d's path, "traced back through parents, each with a smaller index", the last epoch whose index is above c: it is under c where c is on
@@ -451,12 +437,12 @@ pub fn next_step(table: &[u8], current: usize) -> Next
     ensures { result ≡ next_step_outcome table.now current }
 {
     if !table_ok(table) {
-        return Next::Refused(Refusal::BadTable);
+        return Err(Refusal::BadTable);
     }
     if table.len() / ENTRY <= current {
-        return Next::Refused(Refusal::NoEpoch);
+        return Err(Refusal::NoEpoch);
     }
-    Next::Take(step_in(table, current))
+    Ok(step_in(table, current))
 }
 
 // ── adding ──

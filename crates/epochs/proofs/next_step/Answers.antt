@@ -7,7 +7,7 @@ use borrow.Author.Tests.{lt-ltb, le-ltb}
 use Rattle.epoch_tree.specs.Tables.{entries_of}
 use Rattle.epochs.specs.Calls.{next_step_outcome}
 use Rattle.epoch_tree.proofs.TableBytes.{length_entries}
-use Rattle.epochs.specs.declared.Next.TheVariants.{Take}
+use Rattle.std.specs.declared.result.Result.TheVariants.{Ok}
 use Rattle.epochs.proofs.next_step.Goals as goal
 
 pub returns-then-not-table_ok : goal.returns-then-not-table_ok
@@ -31,4 +31,4 @@ returns c =
     let kept = sym c.table_ok.ensures ∙ c.if-not-table_ok.false in
     let t = entries_of c.args.table.now in
     let inside : c.args.current < length t = omega (arith, length_entries c.args.table.now) in
-    simp (kept, lt-ltb c.args.current (length t) inside) (ap Take c.step_in.ensures)
+    simp (kept, lt-ltb c.args.current (length t) inside) (ap Ok c.step_in.ensures)
