@@ -15,7 +15,7 @@ use Rattle.slots.specs.Tuples.{tuple_size, tuples_at, row_at, Within}
 use Rattle.slots.proofs.TuplesInBytes.{tuples_on, length_tuples_at}
 use Rattle.fields.specs.Fields.{field_head, size_in, stands}
 use Rattle.fields.proofs.FieldAt.{size_at, stands_at, stands_long}
-use Rattle.name_fields.specs.declared.NameField.TheVariants.{Tuples, Nothing}
+use Rattle.std.specs.Prelude.{Some, None}
 use Rattle.name_fields.specs.NameFields.{field_of_name, name_stands_as, tuples_in, field_in}
 use Rattle.name_fields.proofs.NameInverse.{name_length, name_whole}
 
@@ -46,19 +46,19 @@ field_size tag s x = name_length tag (row_at s x) ∙ ap (λ (n : ℕ). field_he
 
 -- ── what the code has found ──
 
-tuples_told : (b : Bool) (m n : ℕ) → cond b (Tuples m) Nothing ≡ Tuples n → (b ≡ true) × (m ≡ n)
-tuples_told true m n e = (refl, let same : Tuples m ≡ Tuples n = e in cc)
+tuples_told : (b : Bool) (m n : ℕ) → cond b (Some m) None ≡ Some n → (b ≡ true) × (m ≡ n)
+tuples_told true m n e = (refl, let same : Some m ≡ Some n = e in cc)
 tuples_told false m n e = absurd (let z : ◌≡◌ {A = ℕ} 0 1 = cc in omega arith)
 
-nothing_told_lem : (b : Bool) (m : ℕ) → cond b (Tuples m) Nothing ≡ Nothing → b ≡ false
+nothing_told_lem : (b : Bool) (m : ℕ) → cond b (Some m) None ≡ None → b ≡ false
 nothing_told_lem true m e = absurd (let z : ◌≡◌ {A = ℕ} 0 1 = cc in omega arith)
 nothing_told_lem false m e = refl
 
 module _ (tag : ℕ) (t : Bytes) where
-  pub field_tuples : (n : ℕ) → field_in tag t ≡ Tuples n → (name_stands_as tag t ≡ true) × (size_in t / tuple_size ≡ n)
+  pub field_tuples : (n : ℕ) → field_in tag t ≡ Some n → (name_stands_as tag t ≡ true) × (size_in t / tuple_size ≡ n)
   field_tuples n e = tuples_told (name_stands_as tag t) (size_in t / tuple_size) n e
 
-  pub field_nothing : field_in tag t ≡ Nothing → name_stands_as tag t ≡ false
+  pub field_nothing : field_in tag t ≡ None → name_stands_as tag t ≡ false
   field_nothing e = nothing_told_lem (name_stands_as tag t) (size_in t / tuple_size) e
 
 -- a name's field of n tuples was found at p: where the tuples stand, and where the field ends
@@ -68,7 +68,7 @@ pub record Found (tag : ℕ) (s : Bytes) (p n : ℕ) : Type 0 where
   pub is : row_at s (record { at = p + field_head; count = n }) ≡ tuples_in (drop p s)
   pub end : p + field_head + tuple_size * n ≡ p + (field_head + size_in (drop p s))
 
-pub found : (tag : ℕ) (s : Bytes) (p n : ℕ) → field_in tag (drop p s) ≡ Tuples n → Found tag s p n
+pub found : (tag : ℕ) (s : Bytes) (p n : ℕ) → field_in tag (drop p s) ≡ Some n → Found tag s p n
 found tag s p n e =
     let t = drop p s in
     let f = field_tuples tag t n e in
