@@ -103,66 +103,25 @@ pub fn all_unmarked(log: &[u8], from: usize) -> bool
     ensures { result ≡ list_all (unmarked_from from) (names_of log.now) }
 {
     let n = log.len() / SLOT;
-    let mut k: usize = 0;
-    loop {
-        if n <= k {
-            break true;
-        }
-        if !is_unmarked(log, pages::span_of(log, k), from) {
-            break false;
-        }
-        k += 1;
-    }
+    (0..n).all(|k| is_unmarked(log, pages::span_of(log, k), from))
 }
 
 // ── depth ──
-
-// The greater of two numbers.
-fn greater(a: usize, b: usize) -> usize
-    ensures { result ≡ max a b }
-{
-    if a < b { b } else { a }
-}
-
-// The lesser of two numbers.
-fn lesser(a: usize, b: usize) -> usize
-    ensures { result ≡ min a b }
-{
-    if a < b { a } else { b }
-}
 
 // The most tuples of a name of the page, or of the log.
 pub fn deepest(page: &[u8]) -> usize
     ensures { (result ≡ deepest_of (names_of page.now)) × (result ≤ limit) }
 {
-    let n = page.len() / SLOT;
-    let mut most: usize = 0;
-    let mut k: usize = 0;
-    loop {
-        if n <= k {
-            break most;
-        }
-        let x = pages::span_of(page, k);
-        most = greater(most, x.count);
-        k += 1;
-    }
+    let (slots, _) = page.as_chunks::<SLOT>();
+    slots.iter().map(|slot| slots::depth(slot)).max().unwrap_or(0)
 }
 
 // The fewest tuples of a name of the page, or of the log; LIMIT where there is none.
 pub fn shallowest(page: &[u8]) -> usize
     ensures { (result ≡ shallowest_of (names_of page.now)) × (result ≤ limit) }
 {
-    let n = page.len() / SLOT;
-    let mut fewest = LIMIT;
-    let mut k: usize = 0;
-    loop {
-        if n <= k {
-            break fewest;
-        }
-        let x = pages::span_of(page, k);
-        fewest = lesser(fewest, x.count);
-        k += 1;
-    }
+    let (slots, _) = page.as_chunks::<SLOT>();
+    slots.iter().map(|slot| slots::depth(slot)).min().unwrap_or(LIMIT)
 }
 
 // ── renaming one name: the case ──
@@ -632,16 +591,7 @@ pub fn all_clear(page: &[u8], log: &[u8], author: Author, from: usize) -> bool
     ensures { result ≡ list_all (clear_from author (names_of log.now) from) (names_of page.now) }
 {
     let n = page.len() / SLOT;
-    let mut k: usize = 0;
-    loop {
-        if n <= k {
-            break true;
-        }
-        if !is_clear(log, author, page, pages::span_of(page, k), from) {
-            break false;
-        }
-        k += 1;
-    }
+    (0..n).all(|k| is_clear(log, author, page, pages::span_of(page, k), from))
 }
 
 // ── taking one name back: alone ──
