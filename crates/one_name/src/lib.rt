@@ -83,18 +83,12 @@ fn is_unmarked(s: &[u8], x: Span, from: usize) -> bool
     requires { Lies s.now x × (is_name (row_at s.now x) ≡ true) × (from ≤ limit) }
     ensures { result ≡ unmarked_from from (row_at s.now x) }
 {
-    let n = x.count;
-    let p = x.at;
-    let mut i = from;
-    loop {
-        if n <= i + 1 {
-            break true;
+    for i in from..x.count - 1 {
+        if slots::marker_at(s, x.at + TUPLE * i) {
+            return false;
         }
-        if slots::marker_at(s, p + TUPLE * i) {
-            break false;
-        }
-        i += 1;
     }
+    true
 }
 
 // No end marker is in a name of the log from its tuple `from` on.
@@ -102,8 +96,12 @@ pub fn all_unmarked(log: &[u8], from: usize) -> bool
     requires { (keeps_layout log.now ≡ true) × (from ≤ limit) }
     ensures { result ≡ list_all (unmarked_from from) (names_of log.now) }
 {
-    let n = log.len() / SLOT;
-    (0..n).all(|k| is_unmarked(log, pages::span_of(log, k), from))
+    for k in 0..log.len() / SLOT {
+        if !is_unmarked(log, pages::span_of(log, k), from) {
+            return false;
+        }
+    }
+    true
 }
 
 // ── depth ──
@@ -176,19 +174,15 @@ fn place_from(log: &[u8], s: &[u8], x: Span, j: usize) -> Place
     ensures { result ≡ place_of (row_at s.now x) (names_of log.now) }
 {
     let n = log.len() / SLOT;
-    let mut k = j;
-    loop {
-        if n <= k {
-            break Place::Gap(k);
-        }
+    for k in j..n {
         let r = pages::span_of(log, k);
         match slots::compare_rows(log, r.at, r.count, s, x.at, x.count) {
             Ordering::Less => {}
-            Ordering::Equal => break Place::Here(k),
-            Ordering::Greater => break Place::Gap(k),
+            Ordering::Equal => return Place::Here(k),
+            Ordering::Greater => return Place::Gap(k),
         }
-        k += 1;
     }
+    Place::Gap(n)
 }
 
 // The case of 01's table for a name, and how many names of the log are below it.
@@ -590,8 +584,12 @@ pub fn all_clear(page: &[u8], log: &[u8], author: Author, from: usize) -> bool
     requires { (keeps_layout page.now ≡ true) × (is_log log.now ≡ true) × (from ≤ limit) }
     ensures { result ≡ list_all (clear_from author (names_of log.now) from) (names_of page.now) }
 {
-    let n = page.len() / SLOT;
-    (0..n).all(|k| is_clear(log, author, page, pages::span_of(page, k), from))
+    for k in 0..page.len() / SLOT {
+        if !is_clear(log, author, page, pages::span_of(page, k), from) {
+            return false;
+        }
+    }
+    true
 }
 
 // ── taking one name back: alone ──
