@@ -1,4 +1,4 @@
--- On which side of N(0) and of N(n−1) a name x is, by the tests of `back_of`, `is_alone` and `alone_of` (`under_first`, `from_first`, `over_last`,
+-- What "above" tests is "below" the other way round (`turned`). On which side of N(0) and of N(n−1) a name x is, by the tests of `back_of`, `is_alone` and `alone_of` (`under_first`, `from_first`, `over_last`,
 -- `to_last`), with what is stripped of it there (`low_is`, `high_is`); and of an x between the two, which is N(k)·t, what its k is good for (`index_read`,
 -- `restored`, `next_logged`, `in_gap_lem`). Assumes nothing.
 use mathlib.Core.Path.{◌≡◌, refl, ◌∙◌, sym, ap}
@@ -13,9 +13,11 @@ use lib.Signed.{non_neg}
 use Rattle.names.specs.declared.Author.{Author}
 use Rattle.names.specs.declared.Tuple.{Tuple}
 use Rattle.names.specs.Ordering.{Row, compare_rows, ◌<ⁿ◌, ◌≤ⁿ◌}
-use Rattle.std.specs.Ordering.{is_lt}
+use Rattle.std.specs.Ordering.{is_lt, is_gt}
+use Rattle.std.specs.declared.cmp.Ordering.{Ordering}
+use Rattle.std.specs.declared.cmp.Ordering.TheVariants.{Less, Equal, Greater}
 use Rattle.names.specs.Names.{m}
-use Rattle.names.proofs.TestedOrder.{is_under_lem, not_under}
+use Rattle.names.proofs.TestedOrder.{is_under_lem, not_under, turned_less, turned_same, turned_more}
 use Rattle.numbers.specs.Bytes.{Bytes}
 use Rattle.slots.specs.Slots.{slot_size}
 use Rattle.pages.specs.Pages.{names_of, is_log}
@@ -23,6 +25,15 @@ use Rattle.name_renames.specs.Renaming.{first_position, lead, N, strip_below, st
 use Rattle.name_renames.proofs.ByTest.{low_as}
 use Rattle.name_renames.proofs.BackByIndex.{Within, lies_within, within_long, within_natural, within_at, back_logged, back_in_gap}
 use Rattle.one_name.proofs.CheckedLog.{logged}
+
+-- compared the other way round
+pub turned : (x y : Row) → is_gt (compare_rows x y) ≡ is_lt (compare_rows y x)
+turned x y = go (compare_rows x y) refl
+  where
+    go : (o : Ordering) → compare_rows x y ≡ o → is_gt o ≡ is_lt (compare_rows y x)
+    go Less e = ap is_lt (turned_less x y e)
+    go Equal e = ap is_lt (turned_same x y e)
+    go Greater e = ap is_lt (turned_more x y e)
 
 above_as : (x : Row) {u v : Tuple} {b r : Bool} → u ≡ v → r ≡ is_lt (compare_rows (u ∷ []) x) → r ≡ b → is_lt (compare_rows (v ∷ []) x) ≡ b
 above_as x d f g = sym (ap (λ (t : Tuple). is_lt (compare_rows (t ∷ []) x)) d) ∙ sym f ∙ g

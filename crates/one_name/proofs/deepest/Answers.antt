@@ -17,8 +17,8 @@ pub returns : goal.returns
 returns c =
     let l = parts_of c.args.page.now in
     let found =
-        sym (option_map_id c.max.result)
-        ∙ max_from_yields_List c.map.result c.max.result c.max.ensures.ran (YieldsList-from_map _ depth_in (YieldsList-from_slice l cc) c.map.ensures.closure (λ x b q k. search (rules, tests)))
+    sym (option_map_id c.max.result)
+    ∙ max_from_yields_List c.map.result c.max.result c.max.ensures.ran (YieldsList-from_map _ depth_in (YieldsList-from_slice l cc) c.map.ensures.closure (λ x b q k. search (rules, tests)))
     in
     let is : c.unwrap_or.result ≡ deepest_of (names_of c.args.page.now) = c.unwrap_or.ensures ∙ ap (λ (o : Option ℕ). unwrap_or o 0) found ∙ most l in
     (is, omega (arith, is, most_within l))

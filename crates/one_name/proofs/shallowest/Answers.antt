@@ -18,8 +18,8 @@ pub returns : goal.returns
 returns c =
     let l = parts_of c.args.page.now in
     let found =
-        sym (option_map_id c.min.result)
-        ∙ min_from_yields_List c.map.result c.min.result c.min.ensures.ran (YieldsList-from_map _ depth_in (YieldsList-from_slice l cc) c.map.ensures.closure (λ x b q k. search (rules, tests)))
+    sym (option_map_id c.min.result)
+    ∙ min_from_yields_List c.map.result c.min.result c.min.ensures.ran (YieldsList-from_map _ depth_in (YieldsList-from_slice l cc) c.map.ensures.closure (λ x b q k. search (rules, tests)))
     in
     let is : c.unwrap_or.result ≡ shallowest_of (names_of c.args.page.now) = c.unwrap_or.ensures ∙ ap (λ (o : Option ℕ). unwrap_or o limit) found ∙ fewest l in
     (is, omega (arith, is, fewest_within (names_of c.args.page.now)))
