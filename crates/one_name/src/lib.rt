@@ -207,7 +207,7 @@ pub fn walk(log: &[u8], author: Author, s: &[u8], x: Span, j: usize) -> Walked
 }
 
 // What a case of 01's table does to a name x.
-#[derive(Clone, Copy)]
+#[derive(Clone, Copy, Debug, PartialEq, Eq)]
 pub enum Change {
     // x stays.
     Kept,
@@ -251,7 +251,7 @@ fn changed(change: Change, x: Name) -> Option<Name>
     }
 }
 
-// One name, renamed; it has more than LIMIT tuples where it does not fit.
+// One name, renamed; none where it has more than LIMIT tuples.
 pub fn rename_name(log: &[u8], author: Author, x: Name) -> Option<Name>
     requires { is_log log.now ≡ true }
     ensures { Gives result (rename_row author (names_of log.now) (row_of x)) }
@@ -265,7 +265,7 @@ pub fn rename_name(log: &[u8], author: Author, x: Name) -> Option<Name>
 // ── taking one name back: the shape ──
 
 // What 01's bullets come to. v is c without its first tuples, so many: c itself, or what follows its first tuple.
-#[derive(Clone, Copy)]
+#[derive(Clone, Copy, Debug, PartialEq, Eq)]
 pub enum Back {
     // r(k)
     Restored(usize),
@@ -425,7 +425,7 @@ pub fn back_of(log: &[u8], author: Author, s: &[u8], c: Span) -> Back
 // ── taking one name back: beside its neighbour ──
 
 // What a name that is taken back is made at: r(k), where it is r(k) itself or is put behind it or ahead of it; else its own tuples. And how many tuples
-// it then has.
+// it then has. Bools, since an enum in their place is copied byte by byte from turn to turn, and was measured to be slower.
 #[derive(Clone, Copy)]
 pub struct Stem {
     pub behind: bool,
@@ -581,9 +581,9 @@ pub fn is_alone(log: &[u8], author: Author, s: &[u8], c: Span) -> bool
     alone_within(log, author, s, c)
 }
 
-// What becomes of a name that is taken back alone: the first two shapes of `Back`. Nothing here is passed on to where names are joined, so that
-// it stays in registers.
-#[derive(Clone, Copy)]
+// What becomes of a name that is taken back alone: the first two shapes of `Back`, an enum of their own, since this one stays in registers, where the
+// whole `Back`, which is passed on to where names are joined, was measured to be kept in memory, byte by byte.
+#[derive(Clone, Copy, Debug, PartialEq, Eq)]
 pub enum Single {
     // r(k)
     Logged(usize),
@@ -649,7 +649,7 @@ fn made(log: &[u8], s: &[u8], c: Span, back: Back) -> Option<Name>
     }
 }
 
-// One name, taken back; it has more than LIMIT tuples where it does not fit.
+// One name, taken back; none where it has more than LIMIT tuples.
 pub fn take_back_name(log: &[u8], author: Author, c: Name) -> Option<Name>
     requires { is_log log.now ≡ true }
     ensures { Gives result (take_back_row author (names_of log.now) (row_of c)) }
