@@ -20,7 +20,7 @@ ghost use Rattle.one_name.specs.Backs.{shaped, Stands, Means, single, deepest_of
 ghost use Rattle.one_name.specs.Stems.{stem, is_behind, is_ahead, is_own, clear_from, marked_at, may_meet, row_of_stem, StemLies};
 
 use name_renames::Case;
-use names::{Author, Joined, LIMIT, Name, Tuple};
+use names::{Author, LIMIT, Name, Tuple};
 use pages::Place;
 use slots::{HEAD, SLOT, Span, TUPLE};
 use std::cmp::Ordering;
@@ -69,13 +69,10 @@ fn stand(x: Name, bytes: &mut [u8]) -> Span
 }
 
 // A name by value, as it is.
-fn whole(x: Name) -> Joined
+fn whole(x: Name) -> Option<Name>
     ensures { Gives result (row_of x) }
 {
-    Joined {
-        fits: true,
-        name: x,
-    }
+    Some(x)
 }
 
 // ── end markers ──
@@ -296,7 +293,7 @@ pub fn gains(change: Change) -> bool
 // ── renaming one name ──
 
 // x changed.
-fn changed(change: Change, x: Name) -> Joined
+fn changed(change: Change, x: Name) -> Option<Name>
     ensures { Gives result (changed_by change (row_of x)) }
 {
     match change {
@@ -307,7 +304,7 @@ fn changed(change: Change, x: Name) -> Joined
 }
 
 // One name, renamed; it has more than LIMIT tuples where it does not fit.
-pub fn rename_name(log: &[u8], author: Author, x: Name) -> Joined
+pub fn rename_name(log: &[u8], author: Author, x: Name) -> Option<Name>
     requires { is_log log.now ≡ true }
     ensures { Gives result (rename_row author (names_of log.now) (row_of x)) }
 {
@@ -749,14 +746,14 @@ fn rest(s: &[u8], c: Span, cut: usize) -> Name
 }
 
 // r·m·v
-fn behind(r: Name, v: Name) -> Joined
+fn behind(r: Name, v: Name) -> Option<Name>
     ensures { Gives result (row_of r ++ (m ∷ row_of v)) }
 {
     name_values::join_by(r, name_values::low_marker(), v)
 }
 
 // "one below r0, then M, then v", with any name of the log for r0.
-fn ahead(r: Name, v: Name) -> Joined
+fn ahead(r: Name, v: Name) -> Option<Name>
     requires { is_name (row_of r) ≡ true }
     ensures { Gives result (one_below (row_of r) ++ (M ∷ row_of v)) }
 {
@@ -764,7 +761,7 @@ fn ahead(r: Name, v: Name) -> Joined
 }
 
 // The name of that shape.
-fn made(log: &[u8], s: &[u8], c: Span, back: Back) -> Joined
+fn made(log: &[u8], s: &[u8], c: Span, back: Back) -> Option<Name>
     requires { (is_log log.now ≡ true) × Lies s.now c × Stands (row_at s.now c) (names_of log.now) back }
     ensures { Gives result (shaped (row_at s.now c) (names_of log.now) back) }
 {
@@ -777,7 +774,7 @@ fn made(log: &[u8], s: &[u8], c: Span, back: Back) -> Joined
 }
 
 // One name, taken back; it has more than LIMIT tuples where it does not fit.
-pub fn take_back_name(log: &[u8], author: Author, c: Name) -> Joined
+pub fn take_back_name(log: &[u8], author: Author, c: Name) -> Option<Name>
     requires { is_log log.now ≡ true }
     ensures { Gives result (take_back_row author (names_of log.now) (row_of c)) }
 {

@@ -1,12 +1,10 @@
 -- `one_name::whole` meets its contract. Assumes nothing.
-use mathlib.Core.Path.{◌≡◌, sym, ap}
-use mathlib.Core.List.{[]}
-use mathlib.Core.Bool.{Bool, true, cond}
+use mathlib.Core.Path.{refl, sym}
 use Prim.Native.Nat.{◌≤◌}
 use native.Mathlib.Omega.{arith}
 use borrow.Author.Tests.{le-leb}
 use lib.ListN.{length, length-take}
-use Rattle.names.specs.Names.{limit, row_of, fits}
+use Rattle.names.specs.Names.{limit, row_of}
 use Rattle.one_name.proofs.whole.Goals as goal
 
 pub returns : goal.returns
@@ -14,5 +12,4 @@ returns c =
     let a = row_of c.args.x in
     let l = c.well_formed.0.1.1.1.0.1.0.1 in
     let h : length a ≤ limit = omega (arith, length-take c.args.x.depth c.args.x.tuples) in
-    let e : fits a ≡ true = le-leb (length a) limit h in
-    (sym e, sym (ap (λ (b : Bool). cond b a []) e))
+    (sym (le-leb (length a) limit h), refl)
