@@ -15,11 +15,12 @@ use Rattle.names.proofs.Laws.{rising_Rising}
 use Rattle.numbers.specs.Bytes.{Bytes}
 use Rattle.std.specs.List.{list_all}
 use Rattle.names.specs.Names.{limit}
-use Rattle.slots.specs.Slots.{slot_size, name_of, keeps_slot}
-use Rattle.numbers.proofs.Every.{every_at, every_end}
-use Rattle.pages.specs.Pages.{names_of, keeps_layout, rises}
+use Rattle.slots.specs.Slots.{slot_size, slot_of, name_of, keeps_slot}
+use Rattle.std.proofs.lemmas.List.Folds.{list_all-map}
+use Rattle.numbers.proofs.Every.{every_at, every_each, every_end}
+use Rattle.pages.specs.Pages.{parts_of, slots_of, name_in, names_of, keeps_layout, rises}
 use Rattle.pages.specs.Places.{below}
-use Rattle.pages.proofs.SlotBySlot.{lent, lent_name, lent_keeps, length_names, rising_cons}
+use Rattle.pages.proofs.SlotBySlot.{lent, lent_name, lent_keeps, length_parts, length_names, rising_cons}
 use Rattle.pages.proofs.RoundTrip.{laid}
 use Rattle.pages.proofs.FindByHalving.{index_below}
 use Rattle.one_name.proofs.PlaceInLog.{place_grows}
@@ -51,6 +52,18 @@ module _ (page : Bytes) (i : ℕ) (h : i < length page / slot_size) where
       let l : i + 1 < length (names_of page) = omega (arith, length_names page (length page / slot_size)) in
       let p = place_grows (get_or (names_of page) i []) (get_or (names_of page) (i + 1) []) log (index_below o i (i + 1) (omega arith) l) in
       omega arith
+
+  -- .. and as one of the parts
+  pub part_keeps : keeps_layout page ≡ true → keeps_slot (get_or (parts_of page) i []) ≡ true
+  part_keeps k = every_each keeps_slot (parts_of page) i [] (omega (arith, length_parts (length page / slot_size) page)) (laid page k).good
+
+-- a test of every name, slot by slot
+pub by_slots : (t : Row → Bool) (page : Bytes) → list_all (λ (s : Bytes). t (name_of s)) (parts_of page) ≡ list_all t (names_of page)
+by_slots t page = sym (list_all-map t name_in (slots_of page) ∙ list_all-map (λ x. t (name_in x)) slot_of (parts_of page))
+
+-- .. of what f makes of it
+pub results_by_slots : (f : Row → Row) (t : Row → Bool) (page : Bytes) → list_all (λ (s : Bytes). t (f (name_of s))) (parts_of page) ≡ list_all t (map f (names_of page))
+results_by_slots f t page = by_slots (λ x. t (f x)) page ∙ sym (list_all-map t f (names_of page))
 
 -- no name is left
 pub results_end : (page : Bytes) (i : ℕ) (f : Row → Row) (t : Row → Bool) → length page / slot_size ≤ i → true ≡ list_all t (drop i (map f (names_of page)))

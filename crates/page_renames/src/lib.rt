@@ -12,7 +12,8 @@ ghost use Rattle.std.specs.List.{list_all};
 ghost use Rattle.numbers.specs.Bytes.{put};
 ghost use Rattle.slots.specs.Slots.{slot_size, name_of, slot_of, slot_bytes, keeps_slot};
 ghost use Rattle.pages.specs.Pages.{keeps_layout, parts_of, slots_of, names_of, pieces, rises, is_log};
-ghost use Rattle.answers.specs.Answers.{ask, in_order, leaves};
+ghost use Rattle.answers.specs.Answers.{in_order, leaves};
+ghost use Rattle.answers.specs.Laws.{Passed};
 ghost use Rattle.name_renames.specs.Renaming.{rename as rename_row, take_back as take_back_row, fresh};
 ghost use Rattle.name_renames.specs.Alone.{alone as is_alone};
 ghost use Rattle.one_name.specs.Backs.{deepest_of, shallowest_of};
@@ -144,7 +145,7 @@ fn check(page: &[u8], log: &[u8], author: Author) -> Result<(), Refusal>
 
 // 5, 6.
 fn check_rename(page: &[u8], log: &[u8], author: Author) -> Result<(), Refusal>
-    requires { in_order (opening_tests page.now log.now author) Err (Ok tt) ≡ Ok tt }
+    requires { Passed (opening_tests page.now log.now author) }
     ensures { result ≡ in_order (rename_tests page.now log.now author) Err (Ok tt) }
 {
     if !all_fresh(page, author) {
@@ -206,7 +207,7 @@ fn still_rises(
 
 // 6, 7 of any page: one walk along it, which keeps the stem of the name before.
 fn check_back(page: &[u8], log: &[u8], author: Author) -> Result<(), Refusal>
-    requires { in_order (opening_tests page.now log.now author) Err (Ok tt) ≡ Ok tt }
+    requires { Passed (opening_tests page.now log.now author) }
     ensures { result ≡ in_order (take_back_tests page.now log.now author) Err (Ok tt) }
 {
     let mut last = Stem {
@@ -266,7 +267,7 @@ fn is_clear(page: &[u8], log: &[u8], author: Author) -> bool
 // or not: `alone_fits` and `alone_mono` (name_renames/proofs/Alone.antt; in specs/Laws.antt `alone_is` and `alone_kept`). If page and log are clear, so
 // it is by `back_depth` (name_renames/proofs/BackDepth.antt) and `clear_kept` (one_name/proofs/Neighbours.antt; in specs/Laws.antt `clear_kept`).
 fn check_names(page: &[u8], log: &[u8], author: Author, alone: bool) -> Result<(), Refusal>
-    requires author_value { in_order (opening_tests page.now log.now author) Err (Ok tt) ≡ Ok tt }
+    requires author_value { Passed (opening_tests page.now log.now author) }
     requires page_value { alone ≡ true → list_all (is_alone author (names_of log.now)) (names_of page.now) ≡ true }
     ensures { result ≡ in_order (take_back_tests page.now log.now author) Err (Ok tt) }
 {
@@ -281,7 +282,7 @@ fn check_names(page: &[u8], log: &[u8], author: Author, alone: bool) -> Result<(
 
 // 5, 6, 8; else the page renamed. Nothing is written before every refusal is ruled out.
 fn rename_checked(page: &[u8], log: &[u8], author: Author, out: &mut [u8]) -> Answer
-    requires { in_order (opening_tests page.now log.now author) Err (Ok tt) ≡ Ok tt }
+    requires { Passed (opening_tests page.now log.now author) }
     ensures value { result ≡ (rename_outcome page.now log.now author (length out.old)).answer }
     ensures out_after { out.new ≡ leaves (rename_outcome page.now log.now author (length out.old)) out.old }
 {
@@ -295,7 +296,7 @@ fn rename_checked(page: &[u8], log: &[u8], author: Author, out: &mut [u8]) -> An
 
 // 6, 7, 8; else the page taken back. Nothing is written before every refusal is ruled out.
 fn take_back_checked(page: &[u8], log: &[u8], author: Author, out: &mut [u8]) -> Answer
-    requires { in_order (opening_tests page.now log.now author) Err (Ok tt) ≡ Ok tt }
+    requires { Passed (opening_tests page.now log.now author) }
     ensures value { result ≡ (take_back_outcome page.now log.now author (length out.old)).answer }
     ensures out_after { out.new ≡ leaves (take_back_outcome page.now log.now author (length out.old)) out.old }
 {
