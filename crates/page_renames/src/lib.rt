@@ -89,12 +89,12 @@ fn write_renamed(page: &[u8], log: &[u8], author: Author, out: &mut [u8])
     requires page_value_2 { all_fit (rename_row author (names_of log.now)) page.now ≡ true }
     ensures { out.new ≡ put out.old 0 (flatten (pieces (carried (rename_row author (names_of log.now)) (slots_of page.now)))) }
 {
+    let (slots, _) = page.as_chunks::<SLOT>();
     let mut below: usize = 0;
-    for i in 0..page.len() / SLOT {
-        let at = SLOT * i;
+    for (i, slot) in slots.iter().enumerate() {
         let walked = one_name::walk(log, author, page, pages::span_of(page, i), below);
         let change = one_name::change_of(log, author, walked.case);
-        renamed_slots::write_changed(out, at, &page[at..at + SLOT], change);
+        renamed_slots::write_changed(out, SLOT * i, slot, change);
         below = walked.below;
     }
 }
@@ -105,15 +105,15 @@ fn write_one_back(page: &[u8], log: &[u8], author: Author, alone: bool, i: usize
     requires i_value { (fits (take_back_row author (names_of log.now) (get_or (names_of page.now) i [])) ≡ true) × (alone ≡ true → is_alone author (names_of log.now) (get_or (names_of page.now) i []) ≡ true) }
     ensures { out.new ≡ put out.old (slot_size * i) (slot_bytes (carry (take_back_row author (names_of log.now)) (slot_of (get_or (parts_of page.now) i [])))) }
 {
-    let at = SLOT * i;
-    let slot = &page[at..at + SLOT];
+    let (slots, _) = page.as_chunks::<SLOT>();
+    let slot = &slots[i];
     let c = pages::span_of(page, i);
     if alone {
         let single = one_name::alone_of(log, author, page, c);
-        renamed_slots::write_single(out, at, slot, log, single);
+        renamed_slots::write_single(out, SLOT * i, slot, log, single);
     } else {
         let back = one_name::back_of(log, author, page, c);
-        renamed_slots::write_back(out, at, slot, log, back);
+        renamed_slots::write_back(out, SLOT * i, slot, log, back);
     }
 }
 
@@ -165,16 +165,10 @@ fn pair_rises(page: &[u8], log: &[u8], author: Author, i: usize) -> bool
     requires { (keeps_layout page.now ≡ true) × (is_log log.now ≡ true) × (1 ≤ i) × (i < length (names_of page.now)) }
     ensures { result ≡ is_lt (compare_rows (take_back_row author (names_of log.now) (get_or (names_of page.now) (i - 1) [])) (take_back_row author (names_of log.now) (get_or (names_of page.now) i []))) }
 {
-    let at = SLOT * i;
+    let (slots, _) = page.as_chunks::<SLOT>();
     let last = one_name::back_of(log, author, page, pages::span_of(page, i - 1));
     let here = one_name::back_of(log, author, page, pages::span_of(page, i));
-    renamed_slots::backs_rise(
-        &page[at - SLOT..at],
-        last,
-        &page[at..at + SLOT],
-        here,
-        log,
-    )
+    renamed_slots::backs_rise(&slots[i - 1], last, &slots[i], here, log)
 }
 
 // It went so before, and slot i, where it is not the first, rises too. The two names are compared only where a marker stands so that they could meet:

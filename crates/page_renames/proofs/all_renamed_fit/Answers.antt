@@ -1,14 +1,12 @@
 use mathlib.Core.Path.{◌∙◌, ap}
-use mathlib.Core.List.{List, []}
 use native.Mathlib.Omega.{arith}
-use lib.ListN.{get_or}
 use Rattle.names.specs.Names.{fits}
 use Rattle.std.specs.List.{list_all}
 use Rattle.numbers.specs.Bytes.{Bytes}
-use Rattle.slots.specs.Slots.{name_of, keeps_slot}
+use Rattle.slots.specs.Slots.{name_of}
 use Rattle.pages.specs.Pages.{names_of}
 use Rattle.name_renames.specs.Renaming.{rename}
-use Rattle.page_renames.proofs.PageWalk.{part_keeps, results_by_slots}
+use Rattle.page_renames.proofs.PageWalk.{slot_keeps, results_by_slots}
 use Rattle.page_renames.proofs.all_renamed_fit.Goals as goal
 
 pub loop-slot-init : goal.loop-slot-init
@@ -18,6 +16,4 @@ loop-slot-init c =
 
 pub renamed_fits-requires : goal.renamed_fits-requires
 renamed_fits-requires c =
-    let i = c.loop-slot.slot-index in
-    let front = ap (λ (l : List Bytes). keeps_slot (get_or l i [])) c.as_chunks.ensures.front in
-    (c.requires.1, front ∙ part_keeps c.args.page.now i (omega (arith, c.loop-slot-test.true, c.as_chunks.ensures.front_len)) c.requires.0)
+    (c.requires.1, slot_keeps c.args.page.now c.loop-slot.slot-index c.as_chunks.ensures.front (omega (arith, c.loop-slot-test.true)) c.requires.0)
