@@ -44,7 +44,7 @@ const FEW: usize = 4;
 const MANY: usize = 8;
 
 // The words of four bytes of as many tuples as a name can have.
-const WORDS: usize = TUPLE * LIMIT / 4;
+pub const WORDS: usize = TUPLE * LIMIT / 4;
 
 // Where the line number stands in a slot, and node, sequence and offset in a tuple, after its position.
 const LINE: usize = 4;
