@@ -45,7 +45,11 @@ fn look_along(page: &[u8], room: usize) -> Seen
         n = slots::depth_over(slot, room);
         before = slot;
     }
-    if rising { Seen::Rising } else { Seen::NotRising }
+    if rising {
+        Seen::Rising
+    } else {
+        Seen::NotRising
+    }
 }
 
 // A page whose slots have room for so many tuples: its layout, and the order of its names.
