@@ -285,7 +285,8 @@ fn rename_checked(page: &[u8], log: &[u8], author: Author, out: &mut [u8]) -> An
         return Err(Refusal::Short);
     }
     write_renamed(page, log, author, out);
-    Ok(page.len() / SLOT)
+    let renamed = page.len() / SLOT;
+    Ok(renamed)
 }
 
 // 6, 7, 8; else the page taken back. Nothing is written before every refusal is ruled out.
@@ -300,7 +301,8 @@ fn take_back_checked(page: &[u8], log: &[u8], author: Author, out: &mut [u8]) ->
         return Err(Refusal::Short);
     }
     write_back(page, log, author, alone, out);
-    Ok(page.len() / SLOT)
+    let taken_back = page.len() / SLOT;
+    Ok(taken_back)
 }
 
 // 1, 2, 3, 4, 5, 6, 8; else the page with its names renamed.

@@ -56,9 +56,9 @@ loop-i-preserved c =
     let name = c.span_of.ensures.1 in
     let is = renamed author l (name_of d) (slot_name s i e ∙ sym name) w.ensures.1 c.change_of-change.ensures in
     let wrote =
-        c.write_changed.ensures
-        ∙ ap (λ (a : Row). put o (slot_size * i) (slot_bytes (record { line = line_of d; name = a }))) is
-        ∙ ap (λ (x : List Bytes). put o (slot_size * i) (slot_bytes (carry f (slot_of (get_or x i []))))) e in
+    c.write_changed.ensures
+    ∙ ap (λ (a : Row). put o (slot_size * i) (slot_bytes (record { line = line_of d; name = a }))) is
+    ∙ ap (λ (x : List Bytes). put o (slot_size * i) (slot_bytes (carry f (slot_of (get_or x i []))))) e in
     let r : length s ≤ length o = omega (arith, c.loop-i.auto.out) in
     let stands = standing_on f s i h c.requires.page_value_2 o c.write_changed.new.out r wrote ∙ c.loop-i.invariant.0 in
     let b : w.result.below ≤ below (get_or (names_of s) i []) l = omega (arith, w.ensures.0, ap (λ (a : Row). below a l) name) in
