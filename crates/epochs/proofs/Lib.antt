@@ -1,6 +1,6 @@
-pub mod EntryNumbers
+pub mod Entries
+pub mod Checks
 pub mod LoopTurns
-pub mod TreeInArray
 pub mod AddOutcomes
 pub mod Laws
 pub mod Settled
