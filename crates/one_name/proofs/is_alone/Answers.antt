@@ -52,17 +52,14 @@ returns-then-is_above c =
     let found = c.is_gt.ensures ∙ ap is_gt c.against-then-is_above.ensures ∙ turned _ (get_or (names_of log) _ []) in
     found ∙ (λ i. is_above (v i) (get_or (names_of log) (k i) [])) ∙ alone_above a.author (names_of log) x f h
 
-pub alone_within-requires : goal.alone_within-requires
-alone_within-requires c =
+pub alone_within-requires-clause-n : goal.alone_within-requires-clause-n
+alone_within-requires-clause-n c =
     let a = c.args in
     let log = a.log.now in
     let x = row_at a.s.now a.c in
     let first = c.first_position-p.ensures in
     let f = from_first log a.author x c.requires.0 first c.lead.ensures c.is_below.ensures c.if-is_below.false in
-    record {
-      log_value = c.requires;
-      n = (f, to_last log a.author x c.requires.0 first c.numbered.ensures c.is_above.ensures c.if-is_above.false);
-    }
+    (f, to_last log a.author x c.requires.0 first c.numbered.ensures c.is_above.ensures c.if-is_above.false)
 
 pub returns : goal.returns
 returns c =
