@@ -5,7 +5,11 @@ use Rattle.names.specs.Ordering.{Row}
 use Rattle.numbers.specs.Bytes.{Bytes}
 use Rattle.slots.specs.Slots.{slot_size, slot_bytes}
 use Rattle.answers.specs.Answers.{Answer}
+use Rattle.std.specs.declared.result.Result.{Result}
 use Rattle.std.specs.declared.result.Result.TheVariants.{Ok, Err}
+use Rattle.names.specs.declared.Name.{Name}
+use Rattle.names.specs.Names.{row_of}
+use Rattle.answers.specs.declared.Refusal.{Refusal}
 use Rattle.answers.specs.declared.Refusal.TheVariants.{Short}
 use Rattle.answers.specs.Answers.{Outcome, number_of, count_of, ask, refuse}
 use Rattle.new_names.specs.NewNames.{new_name_outcome}
@@ -19,6 +23,11 @@ packed a = number_of a * 4294967296 + count_of a
 abbrev pub named : Answer → Row → ℕ → Outcome
 named (Err r) name room = refuse r
 named (Ok n) name room = ask (leb slot_size room) (refuse Short) (record { answer = Ok n; bytes = slot_bytes (record { line = 0; name = name }) })
+
+-- the same of what making a name has given, the name by value or a refusal
+abbrev pub written : Result Name Refusal → ℕ → Outcome
+written (Err r) room = refuse r
+written (Ok name) room = named (Ok 0) (row_of name) room
 
 -- "new name 1, 2, 4, 16, 12, 6", and 8 after them
 abbrev pub new_slot_outcome : Bytes → ℕ → Author → ℕ → Outcome

@@ -4,7 +4,6 @@
 #![tactic(auto)]
 
 ghost use Rattle.std.specs.Prelude.{◌≡◌, ◌<◌, length};
-ghost use Rattle.names.specs.Names.{row_of};
 ghost use Rattle.answers.specs.Answers.{count_of, leaves};
 ghost use Rattle.pages.specs.Pages.{check_page, check_log};
 ghost use Rattle.edits.specs.Edits.{insert_outcome, remove_outcome};
@@ -13,7 +12,7 @@ ghost use Rattle.page_renames.specs.Renames.{rename_outcome, take_back_outcome};
 ghost use Rattle.epochs.specs.Calls.{check_table, number_in, index_in, answer_of, next_step_outcome, add_outcome};
 ghost use Rattle.messages.specs.Calls.{read_outcome, numbers_read, write_outcome};
 ghost use Rattle.groups.specs.Calls.{group_outcome, ungroup_outcome, insert_form_outcome, remove_form_outcome};
-ghost use Rattle.kadalumbir.specs.Library.{packed, named, new_slot_outcome, numbers};
+ghost use Rattle.kadalumbir.specs.Library.{packed, written, new_slot_outcome, numbers};
 
 use answers::{Answer, Refusal};
 use messages::Numbers;
@@ -25,7 +24,7 @@ fn pack(a: Answer) -> u64
     requires { count_of a < 4294967296 }
     ensures { result ≡ packed a }
 {
-    (answers::number(a) as u64) * 4294967296 + answers::count(a) as u64
+    u64::from(answers::number(a)) * 4294967296 + answers::count(a) as u64
 }
 
 // ── checks ──
@@ -89,21 +88,17 @@ pub extern "C" fn kadalumbir_to_old(page: &[u8], out: &mut [u8]) -> u64
 
 // ── new names ──
 
-// 8; else the name as one slot with line number 0.
-fn write_name(answer: Answer, name: Name, out: &mut [u8]) -> Answer
-    ensures value { result ≡ (named answer (row_of name) (length out.old)).answer }
-    ensures out_after { out.new ≡ leaves (named answer (row_of name) (length out.old)) out.old }
+// The refusal; 8; else the name as one slot with line number 0.
+fn write_name(made: Result<Name, Refusal>, out: &mut [u8]) -> Answer
+    ensures value { result ≡ (written made (length out.old)).answer }
+    ensures out_after { out.new ≡ leaves (written made (length out.old)) out.old }
 {
-    match answer {
-        Err(r) => Err(r),
-        Ok(n) => {
-            if out.len() < SLOT {
-                return Err(Refusal::Short);
-            }
-            slots::write_slot(out, 0, 0, name);
-            Ok(n)
-        }
+    let name = made?;
+    if out.len() < SLOT {
+        return Err(Refusal::Short);
     }
+    slots::write_slot(out, 0, 0, name);
+    Ok(0)
 }
 
 #[unsafe(no_mangle)]
@@ -118,9 +113,7 @@ pub extern "C" fn kadalumbir_new_name(
     ensures out_after { out.new ≡ leaves (new_slot_outcome page.now gap (record { node = node; sequence = sequence }) (length out.old)) out.old }
 {
     let made = new_names::new_name(page, gap, Author { node, sequence });
-    let answer = made.answer;
-    let name = made.name;
-    pack(write_name(answer, name, out))
+    pack(write_name(made, out))
 }
 
 // ── renames ──
@@ -203,22 +196,34 @@ pub extern "C" fn kadalumbir_write_message(
     ensures value { result ≡ packed (write_outcome (numbers kind epoch_node epoch_sequence author_node author_sequence line) names.now (length out.old)).answer }
     ensures out_after { out.new ≡ leaves (write_outcome (numbers kind epoch_node epoch_sequence author_node author_sequence line) names.now (length out.old)) out.old }
 {
-    let epoch = Author {
-        node: epoch_node,
-        sequence: epoch_sequence,
-    };
-    let author = Author {
-        node: author_node,
-        sequence: author_sequence,
-    };
     let numbers = Numbers {
         kind,
-        epoch,
-        author,
+        epoch: Author {
+            node: epoch_node,
+            sequence: epoch_sequence,
+        },
+        author: Author {
+            node: author_node,
+            sequence: author_sequence,
+        },
         line,
     };
     pack(write_messages::write(numbers, names, out))
 }
+
+// "a refused read gives kind, epoch, author and line number as zeros"
+const NOTHING: Numbers = Numbers {
+    kind: 0,
+    epoch: Author {
+        node: 0,
+        sequence: 0,
+    },
+    author: Author {
+        node: 0,
+        sequence: 0,
+    },
+    line: 0,
+};
 
 #[unsafe(no_mangle)]
 pub extern "C" fn kadalumbir_read_message(
@@ -236,17 +241,14 @@ pub extern "C" fn kadalumbir_read_message(
     ensures out_after { out.new ≡ leaves (read_outcome message.now (length out.old)) out.old }
 {
     let read = read_messages::read(message, out);
-    let answer = read.answer;
-    let numbers = read.numbers;
-    let epoch = numbers.epoch;
-    let author = numbers.author;
+    let numbers = read.map_or(NOTHING, |r| r.numbers);
     *kind = numbers.kind;
-    *epoch_node = epoch.node;
-    *epoch_sequence = epoch.sequence;
-    *author_node = author.node;
-    *author_sequence = author.sequence;
+    *epoch_node = numbers.epoch.node;
+    *epoch_sequence = numbers.epoch.sequence;
+    *author_node = numbers.author.node;
+    *author_sequence = numbers.author.sequence;
     *line = numbers.line;
-    pack(answer)
+    pack(read.map(|r| r.names))
 }
 
 // ── forms ──
