@@ -1,13 +1,14 @@
 -- A name's field at the place p of some bytes s, under any tag: where in s its tuples stand (`tuples_at_lem`), and how far it reaches
--- (`name_long`); what the code has found there (`field_tuples`, `field_nothing`), and where the tuples then stand (`Found`). The length of
--- the field of a name that stands in s (`field_size`). Assumes nothing.
+-- (`name_long`); what the code has found there (`some_told`, `none_told`, `field_nothing`), and where the tuples then stand (`Found`). The
+-- length of the field of a name that stands in s (`field_size`). Assumes nothing.
 use mathlib.Core.Path.{◌≡◌, refl, sym, ap, ◌∙◌}
-use mathlib.Core.Bool.{Bool, true, false, cond}
+use mathlib.Core.Bool.{Bool, true, false}
 use Prim.Native.Nat.{ℕ, ◌+◌, ◌*◌, ◌/◌, ◌%◌, ◌≤◌}
 use native.Mathlib.Omega.{arith}
 use lib.Dec.{eqb}
 use lib.ListN.{length, drop}
 use Rattle.std.specs.Prelude.{Some, None}
+use Rattle.std.specs.Bool.{then_some}
 use Rattle.numbers.proofs.Bools.{and_0}
 use Rattle.numbers.specs.Bytes.{Bytes}
 use Rattle.slots.specs.declared.Span.{Span}
@@ -37,20 +38,20 @@ field_size tag s x = name_length tag (row_at s x) ∙ ap (λ (n : ℕ). field_he
 
 -- ── what the code has found ──
 
-tuples_told : (b : Bool) (m n : ℕ) → cond b (Some m) None ≡ Some n → (b ≡ true) × (m ≡ n)
-tuples_told true m n e = (refl, cc)
-tuples_told false m n e = absurd (cc)
+pub some_told : {A : Type 0} (b : Bool) (x y : A) → then_some b x ≡ Some y → (b ≡ true) × (x ≡ y)
+some_told true x y e = (refl, cc)
+some_told false x y e = absurd (cc)
 
-nothing_told_lem : (b : Bool) (m : ℕ) → cond b (Some m) None ≡ None → b ≡ false
-nothing_told_lem true m e = absurd (cc)
-nothing_told_lem false m e = refl
+pub none_told : {A : Type 0} (b : Bool) (x : A) → then_some b x ≡ None → b ≡ false
+none_told true x e = absurd (cc)
+none_told false x e = refl
 
 module _ (tag : ℕ) (t : Bytes) where
   field_tuples : (n : ℕ) → field_in tag t ≡ Some n → (name_stands_as tag t ≡ true) × (size_in t / tuple_size ≡ n)
-  field_tuples n e = tuples_told (name_stands_as tag t) (size_in t / tuple_size) n e
+  field_tuples n e = some_told (name_stands_as tag t) (size_in t / tuple_size) n e
 
   pub field_nothing : field_in tag t ≡ None → name_stands_as tag t ≡ false
-  field_nothing e = nothing_told_lem (name_stands_as tag t) (size_in t / tuple_size) e
+  field_nothing e = none_told (name_stands_as tag t) (size_in t / tuple_size) e
 
 -- a name's field of n tuples was found at p: where the tuples stand, and where the field ends
 pub record Found (tag : ℕ) (s : Bytes) (p n : ℕ) : Type 0 where

@@ -1,5 +1,6 @@
 -- Names in fields: document 01, "Messages": "a name's tuples, 12 bytes each". Under which tag a name stands is said by who uses it.
-use Rattle.std.specs.Prelude.{ℕ, ◌/◌, ◌%◌, Bool, cond, ◌&&◌, Option, Some, None, eqb}
+use Rattle.std.specs.Prelude.{ℕ, ◌/◌, ◌%◌, Bool, ◌&&◌, Option, eqb}
+use Rattle.std.specs.Bool.{then_some}
 use Rattle.names.specs.Ordering.{Row}
 use Rattle.names.specs.Names.{fits, is_name}
 use Rattle.numbers.specs.Bytes.{Bytes}
@@ -27,4 +28,4 @@ tuples_in s = tuples_at s field_head (size_in s / tuple_size)
 
 -- what stands there, as the code says it (`name_field`, src/lib.rt): how many tuples a whole field has, or nothing where there is none
 abbrev pub field_in : ℕ → Bytes → Option ℕ
-field_in tag s = cond (name_stands_as tag s) (Some (size_in s / tuple_size)) None
+field_in tag s = then_some (name_stands_as tag s) (size_in s / tuple_size)

@@ -1,27 +1,19 @@
 -- What the first pass has told of the bytes s (`told_some`, `told_none`), for the second: its count of names is that of all the names there
 -- are (`names_told`, `told_few`, `told_fit`). Assumes nothing.
-use mathlib.Core.Path.{◌≡◌, refl, sym, ap, ◌∙◌}
-use mathlib.Core.Bool.{Bool, true, false}
+use mathlib.Core.Path.{◌≡◌, sym, ap, ◌∙◌}
+use mathlib.Core.Bool.{true, false}
 use Prim.Native.Nat.{ℕ}
 use lib.ListN.{length, drop}
 use Rattle.std.specs.Prelude.{Some, None}
-use Rattle.std.specs.Bool.{then_some}
 use Rattle.numbers.specs.Bytes.{Bytes}
 use Rattle.std.specs.List.{list_all}
 use Rattle.name_fields.specs.NameFields.{name_fits}
+use Rattle.name_fields.proofs.NameAt.{some_told, none_told}
 use Rattle.messages.specs.Messages.{most_names, names_within, kind_in, names_place, names_in, numbers_in, parts_in, keeps_message}
 use Rattle.messages.proofs.TestsPassed.{good, parts_message}
 use Rattle.messages.proofs.NameFields.{names_exact}
 use Rattle.read_messages.specs.declared.Reading.{Reading}
 use Rattle.read_messages.specs.FirstPass.{telling}
-
-some_told : (b : Bool) (x y : Reading) → then_some b x ≡ Some y → (b ≡ true) × (x ≡ y)
-some_told true x y e = (refl, cc)
-some_told false x y e = absurd (cc)
-
-none_told : (b : Bool) (x : Reading) → then_some b x ≡ None → b ≡ false
-none_told true x e = absurd (cc)
-none_told false x e = refl
 
 module _ (s : Bytes) where
   abbrev read : Reading
