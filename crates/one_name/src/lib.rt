@@ -78,12 +78,7 @@ fn is_unmarked(s: &[u8], x: Span, from: usize) -> bool
     requires { Lies s.now x × (is_name (row_at s.now x) ≡ true) × (from ≤ limit) }
     ensures { result ≡ unmarked_from from (row_at s.now x) }
 {
-    for i in from..x.count - 1 {
-        if slots::marker_at(s, x.at + TUPLE * i) {
-            return false;
-        }
-    }
-    true
+    (from..x.count - 1).all(|i| !slots::marker_at(s, x.at + TUPLE * i))
 }
 
 // No end marker is in a name of the log from its tuple `from` on.
