@@ -4,11 +4,12 @@
 #![tactic(auto)]
 
 use listing_text::TEXT;
+use pages::PAGE;
 use std::io;
 
 fn main(rt: HostRuntime) -> io::Result<()> {
     // "with buffers set to zero for a whole page"
-    let mut page = [0u8; 51200];
+    let mut page = [0u8; PAGE];
     let mut input = rt.stdin();
     let n = inputs::read_full(&mut input, &mut page)?;
     // One byte more tells whether the input goes on after a whole page.

@@ -39,8 +39,10 @@ module _ (s : Bytes) (k : ℕ) (h : k < length s / slot_size) where
       let g : k < length l = omega (arith, length_slots s) in
       let e : get_or l k (slot_of []) ≡ slot_of slot = get_or-map slot_of (parts_of s) k [] in
       sym
-      (rw (add-one, take-suc l k (slot_of []) g, e)
-      (lines_append (take k l) (slot_of slot ∷ []) ∙ ap (λ (w : Bytes). lines_text (take k l) ++ w) (append-nil (line_text (slot_of slot)))))
+      (ap lines_text (ap (λ (j : ℕ). take j l) (add-one k) ∙ take-suc l k (slot_of []) g)
+      ∙ lines_append (take k l) (get_or l k (slot_of []) ∷ [])
+      ∙ ap (λ (x : Slot). lines_text (take k l) ++ lines_text (x ∷ [])) e
+      ∙ ap (λ (w : Bytes). lines_text (take k l) ++ w) (append-nil (line_text (slot_of slot))))
 
   -- a slot that keeps the layout
   pub kept_at : list_all keeps_slot (parts_of s) ≡ true → Kept slot

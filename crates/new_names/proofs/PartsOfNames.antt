@@ -30,19 +30,21 @@ module _ (s : Bytes) (a : Span) where
   len : length (row_at s a) ≡ a.count
   len = length_tuples_at s a.at a.count
 
-  -- 6
-  pub deep : (x : Row) → limit < a.count + length x → Means s (Err TooDeep) (answer_name (some (row_at s a ++ x)))
-  deep x h = rw (lt-leb (length (row_at s a ++ x)) limit (omega (arith, len, length-append (row_at s a) x))) refl
-
   -- the tuples at a, and k of two more
-  module _ (t u : Tuple) where
-    pub grown : (k : ℕ) → k ≤ 2 → a.count + k ≤ limit → Lies s a →
+  module _ (t u : Tuple) (k : ℕ) (h : k ≤ 2) where
+    long : length (row_at s a ++ take k (t ∷ u ∷ [])) ≡ a.count + k
+    long = omega (arith, len, length-append (row_at s a) (take k (t ∷ u ∷ [])), length-take k (t ∷ u ∷ []))
+
+    -- 6
+    pub deep : limit < a.count + k → Means s (Err TooDeep) (answer_name (some (row_at s a ++ take k (t ∷ u ∷ []))))
+    deep f = rw (lt-leb (length (row_at s a ++ take k (t ∷ u ∷ []))) limit (omega (arith, long))) refl
+
+    pub grown : a.count + k ≤ limit → Lies s a →
         Means s (Ok (record { a = a; first = t; second = u; depth = a.count + k })) (answer_name (some (row_at s a ++ take k (t ∷ u ∷ []))))
-    grown k h f l =
+    grown f l =
         let x = t ∷ u ∷ [] in
-        let g : length (row_at s a ++ take k x) ≤ limit = omega (arith, len, length-take k x, length-append (row_at s a) (take k x)) in
         let e = ap (λ (n : ℕ). take (n + k) (row_at s a ++ x)) (sym len) ∙ take-append-add (row_at s a) x k in
-        rw (le-leb (length (row_at s a ++ take k x)) limit g) ((l, omega arith, f), refl, e)
+        rw (le-leb (length (row_at s a ++ take k x)) limit (omega (arith, long))) ((l, omega arith, f), refl, e)
 
 module _ (s : Bytes) (p : Parts) where
   pub parts_length : length (parts_of s p) ≡ p.a.count + 2

@@ -15,7 +15,7 @@ use Rattle.std.specs.Ordering.{ordering_then, is_eq}
 use Rattle.numbers.specs.Bytes.{Bytes, at16}
 use Rattle.slots.specs.Tuples.{tuple_at, tuples_at}
 use Rattle.slots.proofs.TuplesInBytes.{length_tuples_at, take_tuples_at}
-use Rattle.new_names.specs.NewNames.{first_before, first_after, rest, name_before}
+use Rattle.new_names.specs.NewNames.{first_or, rest, name_before}
 
 -- ── what follows a prefix ──
 
@@ -69,21 +69,12 @@ before_suc (suc g) l h = let e : suc g - 1 ≡ g = omega arith in ap (λ (k : �
 
 -- ── first positions, of the n tuples from p on ──
 
-module _ (s : Bytes) (p : ℕ) where
-  pub before_none : (n : ℕ) → n < 1 → 0 ≡ first_before (tuples_at s p n)
-  before_none zero h = refl
-  before_none (suc n) h = absurd (omega arith)
+module _ (s : Bytes) (p missing : ℕ) where
+  pub first_none : (n : ℕ) → n < 1 → missing ≡ first_or missing (tuples_at s p n)
+  first_none zero h = refl
+  first_none (suc n) h = absurd (omega arith)
 
-  pub before_first : (n : ℕ) → 1 ≤ n → at16 s p ≡ first_before (tuples_at s p n)
+  pub first_some : (n : ℕ) → 1 ≤ n → at16 s p ≡ first_or missing (tuples_at s p n)
   unfolding tuple_at
-  before_first zero h = absurd (not-suc-le-zero h)
-  before_first (suc n) h = refl
-
-  pub after_none : (n : ℕ) → n < 1 → 65535 ≡ first_after (tuples_at s p n)
-  after_none zero h = refl
-  after_none (suc n) h = absurd (omega arith)
-
-  pub after_first : (n : ℕ) → 1 ≤ n → at16 s p ≡ first_after (tuples_at s p n)
-  unfolding tuple_at
-  after_first zero h = absurd (not-suc-le-zero h)
-  after_first (suc n) h = refl
+  first_some zero h = absurd (not-suc-le-zero h)
+  first_some (suc n) h = refl

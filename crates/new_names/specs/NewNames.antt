@@ -19,13 +19,15 @@ use Rattle.answers.specs.Answers.{Test, ◌else◌, in_order}
 use Rattle.pages.specs.Pages.{slots_of, names_of, keeps_layout, rises}
 
 -- "First positions count 0 for a missing a and 65535 for a missing b."
+abbrev pub first_or : ℕ → Row → ℕ
+first_or missing [] = missing
+first_or missing (t ∷ a) = t.position
+
 abbrev pub first_before : Row → ℕ
-first_before [] = 0
-first_before (t ∷ a) = t.position
+first_before a = first_or 0 a
 
 abbrev pub first_after : Row → ℕ
-first_after [] = 65535
-first_after (t ∷ b) = t.position
+first_after b = first_or 65535 b
 
 -- the tuples of b after a, where a is a prefix of b
 unfoldable pub rest : Row → Row → Option Row

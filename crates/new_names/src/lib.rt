@@ -3,13 +3,13 @@
 
 #![tactic(auto)]
 
-ghost use Rattle.std.specs.Prelude.{◌≡◌, [], ◌∷◌, ◌++◌, cond, ◌+◌, ◌≤◌, ◌<◌, drop, get_or};
+ghost use Rattle.std.specs.Prelude.{◌≡◌, [], ◌∷◌, ◌++◌, cond, ◌+◌, ◌≤◌, ◌<◌, drop, take, get_or};
 ghost use Rattle.std.proofs.Math.Option.{none, some};
 ghost use Rattle.names.specs.Names.{limit, value_of, m};
 ghost use Rattle.numbers.specs.Bytes.{Bytes};
 ghost use Rattle.slots.specs.Tuples.{row_at, Within, Lies};
 ghost use Rattle.pages.specs.Pages.{names_of};
-ghost use Rattle.new_names.specs.NewNames.{first_before, first_after, rest, own as own_tuple, before_tuple, close_by, new_name, name_before, answer_name, new_name_outcome, Says};
+ghost use Rattle.new_names.specs.NewNames.{first_or, rest, own as own_tuple, before_tuple, close_by, new_name, name_before, answer_name, new_name_outcome, Says};
 ghost use Rattle.new_names.specs.FoundParts.{parts_of, made_of, Stands, Means};
 
 use answers::Refusal;
@@ -17,9 +17,9 @@ use names::{Author, LIMIT, Name, Tuple};
 use slots::{Span, TUPLE};
 
 // "First positions count 0 for a missing a and 65535 for a missing b."
-const LOWEST: u32 = 0;
+const LOWEST: u16 = 0;
 
-const HIGHEST: u32 = 65535;
+const HIGHEST: u16 = 65535;
 
 // The position of a new tuple that only has to follow what stands before it: half way.
 const MIDDLE: u16 = 32768;
@@ -45,60 +45,40 @@ fn own(author: Author, position: u16) -> Tuple
     }
 }
 
+// a and the first n of two tuples, or 6 where these are too many.
+fn more(a: Span, first: Tuple, second: Tuple, n: usize) -> Result<Parts, Refusal>
+    requires { (a.count ≤ limit) × (n ≤ 2) }
+    ensures { (s : Bytes) → Lies s a → Means s result (answer_name (some (row_at s a ++ take n (first ∷ second ∷ [])))) }
+{
+    let depth = a.count + n;
+    if LIMIT < depth {
+        return Err(Refusal::TooDeep);
+    }
+    Ok(Parts {
+        a,
+        first,
+        second,
+        depth,
+    })
+}
+
 // a·t, or 6 where that has too many tuples.
 fn one_more(a: Span, t: Tuple) -> Result<Parts, Refusal>
     requires { a.count ≤ limit }
     ensures { (s : Bytes) → Lies s a → Means s result (answer_name (some (row_at s a ++ (t ∷ [])))) }
 {
-    let depth = a.count + 1;
-    if LIMIT < depth {
-        return Err(Refusal::TooDeep);
-    }
-    Ok(Parts {
-        a,
-        first: t,
-        second: t,
-        depth,
-    })
+    more(a, t, t, 1)
 }
 
-// a·t·u, or 6 where that has too many tuples.
-fn two_more(a: Span, t: Tuple, u: Tuple) -> Result<Parts, Refusal>
-    requires { a.count ≤ limit }
-    ensures { (s : Bytes) → Lies s a → Means s result (answer_name (some (row_at s a ++ (t ∷ u ∷ [])))) }
+// The position of the first tuple of a name, which may be missing.
+fn first_position(page: &[u8], name: Span, missing: u16) -> u32
+    requires { Within page.now name }
+    ensures { (result ≡ first_or missing (row_at page.now name)) × (result ≤ 65535) }
 {
-    let depth = a.count + 2;
-    if LIMIT < depth {
-        return Err(Refusal::TooDeep);
+    if name.count < 1 {
+        return u32::from(missing);
     }
-    Ok(Parts {
-        a,
-        first: t,
-        second: u,
-        depth,
-    })
-}
-
-// The position of a's first tuple; a may be missing.
-fn first_before(page: &[u8], a: Span) -> u32
-    requires { Within page.now a }
-    ensures { (result ≡ first_before (row_at page.now a)) × (result ≤ 65535) }
-{
-    if a.count < 1 {
-        return LOWEST;
-    }
-    u32::from(numbers::read_u16(page, a.at))
-}
-
-// The position of b's first tuple; b may be missing.
-fn first_after(page: &[u8], b: Span) -> u32
-    requires { Within page.now b }
-    ensures { (result ≡ first_after (row_at page.now b)) × (result ≤ 65535) }
-{
-    if b.count < 1 {
-        return HIGHEST;
-    }
-    u32::from(numbers::read_u16(page, b.at))
+    u32::from(numbers::read_u16(page, name.at))
 }
 
 // a is a prefix of b: of b's tuples the first, as many as a has, are a's. What follows a are then b's tuples from a's count on.
@@ -127,7 +107,7 @@ fn before_tuple(a: Span, y: Tuple, author: Author) -> Result<Parts, Refusal>
     if !name_values::not_below_zero(y.offset) {
         return Err(Refusal::NoNewName);
     }
-    two_more(a, name_values::one_lower(y), own(author, MIDDLE))
+    more(a, name_values::one_lower(y), own(author, MIDDLE), 2)
 }
 
 // "3. Else a·(32768, node, sequence, 0)."
@@ -158,8 +138,8 @@ fn new_between(page: &[u8], a: Span, b: Span, author: Author) -> Result<Parts, R
     requires { Lies page.now a × Lies page.now b }
     ensures { Means page.now result (answer_name (new_name author (row_at page.now a) (row_at page.now b))) }
 {
-    let low = first_before(page, a);
-    let high = first_after(page, b);
+    let low = first_position(page, a, LOWEST);
+    let high = first_position(page, b, HIGHEST);
     if low + 2 <= high {
         return one_more(
             Span { at: 0, count: 0 },

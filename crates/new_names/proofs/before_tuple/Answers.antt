@@ -41,4 +41,4 @@ returns c =
     λ p h.
     let a = row_at p c.args.a in
     let g = (λ i. some (a ++ (c.one_lower.ensures i ∷ c.own-2.ensures i ∷ []))) ∙ lower c.args.author a c.args.y c.if-y-ne1.false b in
-    given p c.two_more.result g (c.two_more.ensures p h)
+    given p c.more.result g (c.more.ensures p h)
