@@ -29,15 +29,15 @@ use Rattle.edits.proofs.EditedBytes.{with_bytes, without_bytes}
 
 -- ── the tests that both begin with ──
 
-apart : (r : Refusal) → Err r ≡ (Ok (tt {0})) → ⊥
+apart : (r : Refusal) → Err r ≡ (Ok tt) → ⊥
 apart r e = absurd (let z : ◌≡◌ {A = ℕ} 0 1 = cc in omega arith)
 
 module _ (page slot : Bytes) where
-  pub checked : in_order (edit_tests page slot) Err (Ok (tt {0})) ≡ (Ok (tt {0})) → Passed (edit_tests page slot)
-  checked e = goes_on_lem Err (Ok (tt {0})) apart (edit_tests page slot) e
+  pub checked : in_order (edit_tests page slot) Err (Ok tt) ≡ (Ok tt) → Passed (edit_tests page slot)
+  checked e = goes_on_lem Err (Ok tt) apart (edit_tests page slot) e
 
-  pub turned_away : (r : Refusal) (next : Outcome) → in_order (edit_tests page slot) Err (Ok (tt {0})) ≡ Err r → in_order (edit_tests page slot) refuse next ≡ refuse r
-  turned_away r next e = failed refuse next (edit_tests page slot) (refuses Err (Ok (tt {0})) apart (λ q r f. cc) (edit_tests page slot) e)
+  pub turned_away : (r : Refusal) (next : Outcome) → in_order (edit_tests page slot) Err (Ok tt) ≡ Err r → in_order (edit_tests page slot) refuse next ≡ refuse r
+  turned_away r next e = failed refuse next (edit_tests page slot) (refuses Err (Ok tt) apart (λ q r f. cc) (edit_tests page slot) e)
 
 -- ── insert ──
 
@@ -122,7 +122,7 @@ pub insert_present : (page slot : Bytes) (room k : ℕ) → Passed (edit_tests p
 unfolding insert_outcome
 insert_present page slot room k (layout, (slot_layout, (order, _))) e = rw (layout, slot_layout, order, (is_here_lem (name_of slot) (names_of page) k e).0)
 
-pub insert_refused : (page slot : Bytes) (room : ℕ) (r : Refusal) → in_order (edit_tests page slot) Err (Ok (tt {0})) ≡ Err r → insert_outcome page slot room ≡ refuse r
+pub insert_refused : (page slot : Bytes) (room : ℕ) (r : Refusal) → in_order (edit_tests page slot) Err (Ok tt) ≡ Err r → insert_outcome page slot room ≡ refuse r
 unfolding insert_outcome
 insert_refused page slot room r e = turned_away page slot r _ e
 
@@ -195,6 +195,6 @@ pub remove_absent : (page slot : Bytes) (room k : ℕ) → Passed (edit_tests pa
 unfolding remove_outcome
 remove_absent page slot room k (layout, (slot_layout, (order, _))) e = rw (layout, slot_layout, order, (is_gap (name_of slot) (names_of page) k e).0)
 
-pub remove_refused : (page slot : Bytes) (room : ℕ) (r : Refusal) → in_order (edit_tests page slot) Err (Ok (tt {0})) ≡ Err r → remove_outcome page slot room ≡ refuse r
+pub remove_refused : (page slot : Bytes) (room : ℕ) (r : Refusal) → in_order (edit_tests page slot) Err (Ok tt) ≡ Err r → remove_outcome page slot room ≡ refuse r
 unfolding remove_outcome
 remove_refused page slot room r e = turned_away page slot r _ e

@@ -37,8 +37,15 @@ fn write_without(page: &[u8], k: usize, out: &mut [u8])
     slots::copy_long(out, p, &page[q..]);
 }
 
+// What stands before an edit: a refusal, or none so far.
+#[derive(Clone, Copy)]
+enum Checked {
+    Refused(Refusal),
+    Passed,
+}
+
 // 1 (page), 1 (slot), 2. The slot is looked at first, since both refuse with 1.
-fn check_edit(page: &[u8], slot: &[u8]) -> Result<(), Refusal>
+fn check_edit(page: &[u8], slot: &[u8]) -> Checked
     ensures { result ≡ in_order (edit_tests page.now slot.now) Err (Ok tt) }
 {
     if !pages::slot_ok(slot) {

@@ -22,7 +22,7 @@ returns-then-not-slot_ok c =
     let page = c.args.page.now in
     let slot = c.args.slot.now in
     let broken : keeps_slot slot ≡ false = sym c.slot_ok.ensures ∙ c.if-not-slot_ok.true in
-    simp broken (slot_broken (keeps_layout page) (rises page) (Ok (tt {0})))
+    simp broken (slot_broken (keeps_layout page) (rises page) (Ok tt))
 
 pub returns-in-Broken : goal.returns-in-Broken
 returns-in-Broken c =
