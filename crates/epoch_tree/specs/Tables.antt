@@ -6,6 +6,7 @@ use Rattle.std.specs.Prelude.{ℕ, suc, ◌+◌, ◌%◌, List, [], ◌∷◌, �
 use Rattle.names.specs.Names.{within}
 use Rattle.numbers.specs.Lists.{equal_parts}
 use Rattle.std.specs.Simd.{first_chunks}
+use Rattle.std.specs.List.{list_any}
 use Rattle.numbers.specs.Bytes.{Bytes, at16, at32, bytes16, bytes32}
 use Rattle.pages.specs.Pages.{max_slots}
 
@@ -40,8 +41,12 @@ entry_parts_of s = equal_parts entry_size s
 abbrev pub entry_of : Bytes → Entry
 entry_of s = entry_in s 0
 
+-- the entries that have these bytes, one each
+abbrev pub entries_in : List Bytes → List Entry
+entries_in l = map entry_of l
+
 abbrev pub entries_of : Bytes → List Entry
-entries_of s = map entry_of (entry_parts_of s)
+entries_of s = entries_in (entry_parts_of s)
 
 -- ── the encoder ──
 
@@ -74,8 +79,7 @@ same_pair e f = eqb e.node f.node && eqb e.sequence f.sequence
 
 -- one of the entries has e's (node, sequence)
 abbrev pub listed : Entry → List Entry → Bool
-listed e [] = false
-listed e (f ∷ l) = same_pair e f || listed e l
+listed e l = list_any (same_pair e) l
 
 -- "Every other entry has node at least 1, a parent index below its own index, and a (node, sequence) that no other entry has"; 02, P1:
 -- "a count outside 1..256 in an entry other than entry 0 is 13". e is entry i of the table t, and is held against the entries before it.

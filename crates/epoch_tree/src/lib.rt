@@ -4,7 +4,7 @@
 #![tactic(auto)]
 
 // "One question gives the next step from a current index: stay, up to the parent, or down to a child, given by index."
-#[derive(Clone, Copy)]
+#[derive(Clone, Copy, Debug, PartialEq, Eq)]
 pub enum Step {
     Stay,
     Up(usize),

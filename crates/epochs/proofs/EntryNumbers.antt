@@ -4,12 +4,12 @@
 use mathlib.Core.Path.{◌≡◌, refl, sym, ap, subst, ◌∙◌}
 use mathlib.Core.Logic.{◌⊎◌, inl, inr}
 use mathlib.Core.Bool.{Bool, true, false}
-use Prim.Native.Nat.{ℕ, ◌+◌, ◌*◌, ◌/◌, ◌%◌, ◌<◌}
+use Prim.Native.Nat.{ℕ, ◌+◌, ◌*◌, ◌/◌, ◌<◌}
 use native.Mathlib.Omega.{arith}
 use borrow.Author.Tests.{eq-eqb, ne_eqb}
 use lib.Dec.{eqb, ltb}
 use lib.ListN.{length}
-use Rattle.numbers.specs.Bytes.{Bytes, Octets, at16, at32, at64}
+use Rattle.numbers.specs.Bytes.{Bytes, Octets, at16, at64}
 use Rattle.numbers.proofs.ReadNumbers.{fits16, fits32}
 use Rattle.names.specs.Ordering.{by_tests, compare_ℕ}
 use Rattle.std.specs.Ordering.{ordering_then, is_lt}
@@ -19,7 +19,7 @@ use Rattle.epoch_tree.specs.Tables.{Entry, entry_size, entry_at, entry_in, entri
 use Rattle.epoch_tree.specs.Tree.{compare_keys}
 use Rattle.epoch_tree.proofs.TableFacts.{pair_same, pair_differs}
 use Rattle.epoch_tree.proofs.TableBytes.{entry_at_lem}
-use Rattle.epochs.specs.Pairs.{pair_number, rest_number, key_number}
+use Rattle.epochs.specs.Pairs.{pair_number, key_number}
 
 -- each number within its bits
 pub record Fits (e : Entry) : Type 0 where
@@ -55,26 +55,6 @@ pair_at s k w o h q =
 
     over : (p : ℕ) → at16 s (p + 6) < 65536 → (pair_number (entry_in s p) * 65536 + at16 s (p + 6)) / 65536 ≡ pair_number (entry_in s p)
     over p f = omega arith
-
--- parent and count are what the last four say
-pub rest_at : (s : Bytes) (k : ℕ) → k < length s / entry_size → at32 s (entry_size * k + 6) ≡ rest_number (entry_at (entries_of s) k)
-rest_at s k h =
-    let p = entry_size * k in
-    let a : at16 s (p + 6 + 2) ≡ at16 s (p + 8) = ap (at16 s) (omega arith) in
-    ap (λ (n : ℕ). at16 s (p + 6) * 65536 + n) a ∙ ap rest_number (sym (entry_at_lem s k h))
-
-module _ (e : Entry) (f : Fits e) (w : ℕ) where
-  pub node_in : w ≡ pair_number e → w / 4294967296 ≡ e.node
-  node_in q = let b : e.sequence < 4294967296 = f.sequence in omega arith
-
-  pub sequence_in : w ≡ pair_number e → w % 4294967296 ≡ e.sequence
-  sequence_in q = let b : e.sequence < 4294967296 = f.sequence in omega arith
-
-  pub parent_in : w ≡ rest_number e → w / 65536 ≡ e.parent
-  parent_in q = let b : e.count < 65536 = f.count in omega arith
-
-  pub count_in : w ≡ rest_number e → w % 65536 ≡ e.count
-  count_in q = let b : e.count < 65536 = f.count in omega arith
 
 -- ── compared ──
 

@@ -20,7 +20,6 @@ use Rattle.epoch_tree.specs.Tree.{next_step}
 use Rattle.epoch_tree.specs.Laws.{OfTable, OneEdge}
 use Rattle.epoch_tree.proofs.Laws as tables
 use Rattle.epoch_tree.proofs.TableBytes.{entries_table, entries_back, added_written}
-use Rattle.epochs.specs.declared.Next.TheVariants as next
 use Rattle.epochs.specs.Calls.{epoch_tests, check_table, next_step_outcome, entry_by, add_outcome}
 use Rattle.epochs.specs.Laws.{Stepped, Added, Laws}
 use Rattle.epochs.proofs.AddOutcomes as outcomes
@@ -35,13 +34,13 @@ checks s n h =
     let k = reached (λ x. x ≡ (Ok n)) Err (Ok (length (entries_of s))) (λ r e. no_answer r n e) tests h in
     (of_table s k.0.0, ap count_of k.1)
 
-no_step : (step : Step) (r : Refusal) → next.Err r ≡ next.Take step → ⊥
+no_step : (step : Step) (r : Refusal) → Err r ≡ Ok step → ⊥
 no_step step r e = let z : ◌≡◌ {A = ℕ} 0 1 = cc in omega arith
 
-steps : (s : Bytes) (current : ℕ) (step : Step) → next_step_outcome s current ≡ next.Take step → Stepped s current step
+steps : (s : Bytes) (current : ℕ) (step : Step) → next_step_outcome s current ≡ Ok step → Stepped s current step
 unfolding next_step_outcome
 steps s current step h =
-    let k = reached (λ x. x ≡ (next.Take step)) next.Err (next.Take (next_step (entries_of s) current)) (no_step step) (epoch_tests s current) h in
+    let k = reached (λ x. x ≡ (Ok step)) Err (Ok (next_step (entries_of s) current)) (no_step step) (epoch_tests s current) h in
     let same : next_step (entries_of s) current ≡ step = let e = k.1 in cc in
     let table = of_table s k.0.0 in
     let inside = ltb-true current (length (entries_of s)) k.0.1.0 in

@@ -1,6 +1,7 @@
+pub mod Entries
+pub mod Checks
 pub mod EntryNumbers
 pub mod LoopTurns
-pub mod TreeInArray
 pub mod AddOutcomes
 pub mod Laws
 pub mod Settled

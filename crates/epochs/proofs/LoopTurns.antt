@@ -12,15 +12,14 @@ use native.Mathlib.Decide.{dec_lt}
 use native.Mathlib.Omega.{arith}
 use lib.Dec.{eqb, leb}
 use lib.ListN.{length, take, drop, get_or, set, length-take, drop_of_length-le}
-use lib.Seq.{drop-cons, get_or-take, take_all, get_or-set_same, get_or-set_other}
+use lib.Seq.{drop-cons, get_or-take, get_or-set_same, get_or-set_other}
 use Rattle.numbers.specs.Bytes.{Bytes}
-use Rattle.epoch_tree.specs.Tables.{Entry, entry_size, max_entries, zero_entry, entry_at, entries_of, is_first, same_pair, listed, keeps_entry, keeps_from, is_table, keeps_table}
+use Rattle.std.specs.List.{list_any}
+use Rattle.epoch_tree.specs.Tables.{Entry, entry_of, entries_in, entry_size, max_entries, zero_entry, entry_at, entries_of, is_first, same_pair, listed, keeps_entry, keeps_from, is_table, keeps_table}
 use Rattle.epoch_tree.specs.Tree.{greater, greatest_to}
 use Rattle.epoch_tree.proofs.TableBytes.{length_entries}
 use Rattle.epoch_tree.proofs.TableFacts.{pair_differs, none_listed}
-use Rattle.names.specs.declared.Author.{Author}
 use Rattle.epochs.specs.Pairs.{group_of, Under}
-use Rattle.epochs.specs.Calls.{entry_by}
 use Rattle.epochs.proofs.EntryNumbers.{equal_or_not}
 
 in_order_lem : (t : List Entry) → is_table t ≡ leb 1 (length t) && leb (length t) max_entries && is_first (entry_at t 0) && keeps_from t 1 (drop 1 t)
@@ -41,28 +40,12 @@ tests s =
     && (in_order_lem t ∙ (λ j. leb 1 (n j) && leb (n j) max_entries && is_first (entry_at t 0) && keeps_from t 1 (drop 1 t))) i
 
 pub listed_pair : (e f : Entry) (l : List Entry) → e.node ≡ f.node → e.sequence ≡ f.sequence → listed e l ≡ listed f l
-listed_pair e f [] p q = refl
-listed_pair e f (x ∷ l) p q = λ i. eqb (p i) x.node && eqb (q i) x.sequence || listed_pair e f l p q i
+listed_pair e f l p q = λ i. list_any (λ x. eqb (p i) x.node && eqb (q i) x.sequence) l
 
--- the pair of an author among all entries of a table
-pub listed_all :
-    (s : Bytes) (author : Author) (parent count : ℕ) →
-    listed (entry_by author 0 0) (take (length s / entry_size) (entries_of s)) ≡ listed (entry_by author parent count) (entries_of s)
-listed_all s author parent count =
-    let n = length_entries s in
-    ap (listed (entry_by author 0 0)) (take_all (length s / entry_size) (entries_of s) (omega arith))
-    ∙ listed_pair (entry_by author 0 0) (entry_by author parent count) (entries_of s) refl refl
-
-module _ (e : Entry) (t : List Entry) (n k : ℕ) where
-  pub listed_turn :
-      {b : Bool} → k < n → n ≤ length t → b ≡ same_pair e (entry_at t k) →
-      b || listed e (drop (k + 1) (take n t)) ≡ listed e (drop k (take n t))
-  listed_turn h g q =
-      let l : k < length (take n t) = let z = length-take n t in omega arith in
-      rw (q, sym (get_or-take n t k zero_entry h), add-one, drop-cons (take n t) k zero_entry l)
-
-  pub listed_end : n ≤ k → false ≡ listed e (drop k (take n t))
-  listed_end h = let l : length (take n t) ≤ k = let z = length-take n t in omega arith in ap (listed e) (sym (drop_of_length-le (take n t) l))
+-- whether an author's pair is one of those of the entries that have these bytes
+pub listed_among : (l : List Bytes) (e : Entry) → list_any (λ s. same_pair e (entry_of s)) l ≡ listed e (entries_in l)
+listed_among [] e = refl
+listed_among (x ∷ l) e = ap (λ (b : Bool). same_pair e (entry_of x) || b) (listed_among l e)
 
 module _ (t : List Entry) (i : ℕ) where
   pub keeps_turn : {b : Bool} → i < length t → b ≡ keeps_entry t i (entry_at t i) → b && keeps_from t (i + 1) (drop (i + 1) t) ≡ keeps_from t i (drop i t)

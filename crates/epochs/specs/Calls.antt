@@ -2,14 +2,14 @@
 use Rattle.std.specs.Prelude.{ℕ, List, [], ◌∷◌, ◌++◌, not, length, leb, ltb}
 use Rattle.names.specs.declared.Author.{Author}
 use Rattle.numbers.specs.Bytes.{Bytes}
+use Rattle.answers.specs.declared.Refusal.{Refusal}
 use Rattle.answers.specs.declared.Refusal.TheVariants.{NoAuthor, BadTable, NoEpoch, Listed, TableFull}
 use Rattle.answers.specs.Answers.{Answer}
+use Rattle.std.specs.declared.result.Result.{Result}
 use Rattle.std.specs.declared.result.Result.TheVariants.{Ok, Err}
 use Rattle.answers.specs.Answers.{Test, ◌else◌, in_order, check, Outcome, outcome}
 use Rattle.epoch_tree.specs.declared.Step.{Step}
 use Rattle.epoch_tree.specs.declared.Step.TheVariants.{Stay, Up, Down}
-use Rattle.epochs.specs.declared.Next.{Next}
-use Rattle.epochs.specs.declared.Next.TheVariants as next
 use Rattle.epoch_tree.specs.Tables.{Entry, max_entries, entries_of, entry_pieces, is_count, listed, keeps_table, added}
 use Rattle.epoch_tree.specs.Tree.{next_step}
 
@@ -30,19 +30,23 @@ step_index Stay = 0
 step_index (Up i) = i
 step_index (Down i) = i
 
+-- what comes back of a question for the next step
+abbrev pub Next : Type 0
+Next = Result Step Refusal
+
 -- "Each refusal reports .. no .. index or step": what comes back has zeros for them
 abbrev pub number_in : Next → ℕ
-number_in (next.Take s) = step_number s
-number_in (next.Err r) = 0
+number_in (Ok s) = step_number s
+number_in (Err r) = 0
 
 abbrev pub index_in : Next → ℕ
-index_in (next.Take s) = step_index s
-index_in (next.Err r) = 0
+index_in (Ok s) = step_index s
+index_in (Err r) = 0
 
 -- "accepted; with the count .. (0 for a new name or a step)"
 abbrev pub answer_of : Next → Answer
-answer_of (next.Take s) = Ok 0
-answer_of (next.Err r) = Err r
+answer_of (Ok s) = Ok 0
+answer_of (Err r) = Err r
 
 -- What both calls below ask first: 13, and 14, "current or parent index not in the table".
 abbrev pub epoch_tests : Bytes → ℕ → List Test
@@ -50,7 +54,7 @@ epoch_tests s i = keeps_table s else BadTable ∷ ltb i (length (entries_of s)) 
 
 -- "next step 13, 14"
 unfoldable pub next_step_outcome : Bytes → ℕ → Next
-next_step_outcome s current = in_order (epoch_tests s current) next.Err (next.Take (next_step (entries_of s) current))
+next_step_outcome s current = in_order (epoch_tests s current) Err (Ok (next_step (entries_of s) current))
 
 -- ── adding ──
 

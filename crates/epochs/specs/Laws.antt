@@ -6,7 +6,6 @@ use Rattle.std.specs.declared.result.Result.TheVariants.{Ok}
 use Rattle.epoch_tree.specs.declared.Step.{Step}
 use Rattle.epoch_tree.specs.Tables.{entries_of, keeps_table, added}
 use Rattle.epoch_tree.specs.Laws.{OfTable, OneEdge, Addable, Adding}
-use Rattle.epochs.specs.declared.Next.TheVariants as next
 use Rattle.epochs.specs.Calls.{check_table, next_step_outcome, entry_by, add_outcome}
 
 -- "One question gives the next step from a current index": an answer of it is of a table's epoch, and is one edge of its tree, or to
@@ -31,7 +30,7 @@ pub record Added (s : Bytes) (parent : ℕ) (author : Author) (count n : ℕ) (s
 pub record Laws : Type 0 where
   -- an accepted table has every law of tables, and as many entries as its count says
   pub checks : (s : Bytes) (n : ℕ) → check_table s ≡ Ok n → OfTable (entries_of s) × (length (entries_of s) ≡ n)
-  pub steps : (s : Bytes) (current : ℕ) (step : Step) → next_step_outcome s current ≡ next.Take step → Stepped s current step
+  pub steps : (s : Bytes) (current : ℕ) (step : Step) → next_step_outcome s current ≡ Ok step → Stepped s current step
   pub adds :
       (s : Bytes) (parent : ℕ) (author : Author) (count room n : ℕ) → (add_outcome s parent author count room).answer ≡ Ok n →
       Added s parent author count n (add_outcome s parent author count room).bytes

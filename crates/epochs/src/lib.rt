@@ -4,14 +4,16 @@
 
 #![tactic(auto)]
 
-ghost use Rattle.std.specs.Prelude.{◌≡◌, true, cond, not, ◌+◌, ◌/◌, ◌≤◌, ◌<◌, length, take, drop, get_or};
+ghost use Rattle.std.specs.Prelude.{◌≡◌, true, cond, not, ◌&&◌, ◌+◌, ◌/◌, ◌≤◌, ◌<◌, length, take, drop};
+ghost use Rattle.std.specs.List.{list_any};
 ghost use Rattle.std.specs.declared.cmp.Ordering.TheVariants.{Less, Greater};
 ghost use Rattle.std.specs.Ordering.{ordering_then, is_lt};
+ghost use Rattle.names.specs.Names.{within};
 ghost use Rattle.numbers.specs.Bytes.{put};
 ghost use Rattle.answers.specs.Answers.{leaves};
-ghost use Rattle.epoch_tree.specs.Tables.{entry_size, entries_of, entry_at, entry_bytes, is_first, is_count, same_pair, listed, keeps_entry, keeps_from, keeps_table};
+ghost use Rattle.epoch_tree.specs.Tables.{entry_size, max_entries, entry_of, entries_in, entries_of, entry_at, entry_bytes, is_first, is_count, same_pair, listed, keeps_entry, keeps_from, is_table, keeps_table};
 ghost use Rattle.epoch_tree.specs.Tree.{parent_of, compare_keys, compare_epochs, greater, target as target_of, step_to, next_step};
-ghost use Rattle.epochs.specs.Pairs.{pair_number, rest_number, key_number, groups, group_of, Under};
+ghost use Rattle.epochs.specs.Pairs.{pair_number, key_number, groups, group_of, Under};
 ghost use Rattle.epochs.specs.Calls.{check_table, step_number, step_index, number_in, index_in, answer_of, next_step_outcome, entry_by, add_outcome};
 
 use answers::{Answer, Refusal};
@@ -21,6 +23,8 @@ use names::Author;
 // "node u16, sequence u32, parent index u16", and 02, P1: "Entries become 10 bytes, the count after the parent index": the entry's size, and
 // the places in it.
 pub const ENTRY: usize = 10;
+
+const SEQUENCE: usize = 2;
 
 const PARENT: usize = 6;
 
@@ -36,57 +40,42 @@ pub const TABLE: usize = ENTRIES * ENTRY;
 
 // ── entries ──
 
-// How many nodes, sequences, parent indices and counts there are: the factors by which numbers that stand side by side are one.
+// How many nodes, sequences and parent indices there are: the factors by which numbers that stand side by side are one.
 const NODES: u64 = 65536;
 
 const SEQUENCES: u64 = 4294967296;
 
 const PARENTS: u64 = 65536;
 
-const COUNTS: u32 = 65536;
-
-// "node u16, sequence u32" of entry k as one number: the compiler makes one load of it, of which it takes both.
-fn pair_of(table: &[u8], k: usize) -> u64
-    requires { k < length table.now / entry_size }
-    ensures { result ≡ pair_number (entry_at (entries_of table.now) k) }
+fn node_of(entry: &[u8; ENTRY]) -> u16
+    ensures { result ≡ (entry_of entry.now).node }
 {
-    numbers::read_u64(table, ENTRY * k) / PARENTS
+    numbers::read_u16(entry, 0)
 }
 
-fn node_of(table: &[u8], k: usize) -> u16
-    requires { k < length table.now / entry_size }
-    ensures { result ≡ (entry_at (entries_of table.now) k).node }
+fn sequence_of(entry: &[u8; ENTRY]) -> u32
+    ensures { result ≡ (entry_of entry.now).sequence }
 {
-    (pair_of(table, k) / SEQUENCES) as u16
+    numbers::read_u32(entry, SEQUENCE)
 }
 
-fn sequence_of(table: &[u8], k: usize) -> u32
-    requires { k < length table.now / entry_size }
-    ensures { result ≡ (entry_at (entries_of table.now) k).sequence }
+fn parent_of(entry: &[u8; ENTRY]) -> usize
+    ensures { result ≡ (entry_of entry.now).parent }
 {
-    (pair_of(table, k) % SEQUENCES) as u32
+    usize::from(numbers::read_u16(entry, PARENT))
 }
 
-// "parent index u16" and "the count after the parent index", likewise.
-fn rest_of(table: &[u8], k: usize) -> u32
-    requires { k < length table.now / entry_size }
-    ensures { result ≡ rest_number (entry_at (entries_of table.now) k) }
+fn count_of(entry: &[u8; ENTRY]) -> u16
+    ensures { result ≡ (entry_of entry.now).count }
 {
-    numbers::read_u32(table, ENTRY * k + PARENT)
+    numbers::read_u16(entry, COUNT)
 }
 
-fn parent_of(table: &[u8], k: usize) -> usize
-    requires { k < length table.now / entry_size }
-    ensures { result ≡ parent_of (entries_of table.now) k }
+// "node u16, sequence u32" as one number, of which the compiler makes one load.
+fn pair_of(entry: &[u8; ENTRY]) -> u64
+    ensures { result ≡ pair_number (entry_of entry.now) }
 {
-    (rest_of(table, k) / COUNTS) as usize
-}
-
-fn count_of(table: &[u8], k: usize) -> u16
-    requires { k < length table.now / entry_size }
-    ensures { result ≡ (entry_at (entries_of table.now) k).count }
-{
-    (rest_of(table, k) % COUNTS) as u16
+    numbers::read_u64(entry, 0) / PARENTS
 }
 
 // ── the layout ──
@@ -95,51 +84,31 @@ fn count_of(table: &[u8], k: usize) -> u16
 fn count_ok(count: u16) -> bool
     ensures { result ≡ is_count count }
 {
-    if count < 1 {
-        return false;
-    }
-    count <= NAMES
+    (1..=NAMES).contains(&count)
 }
 
 // "entry 0 stays all zero"
-fn first_ok(table: &[u8]) -> bool
-    requires { 0 < length table.now / entry_size }
-    ensures { result ≡ is_first (entry_at (entries_of table.now) 0) }
+fn first_ok(entry: &[u8; ENTRY]) -> bool
+    ensures { result ≡ is_first (entry_of entry.now) }
 {
-    if node_of(table, 0) != 0 {
-        return false;
-    }
-    if sequence_of(table, 0) != 0 {
-        return false;
-    }
-    if parent_of(table, 0) != 0 {
-        return false;
-    }
-    count_of(table, 0) == 0
+    node_of(entry) == 0
+        && sequence_of(entry) == 0
+        && parent_of(entry) == 0
+        && count_of(entry) == 0
 }
 
-// Entry k has that (node, sequence).
-fn pair_is(table: &[u8], k: usize, author: Author) -> bool
-    requires { k < length table.now / entry_size }
-    ensures { result ≡ same_pair (entry_by author 0 0) (entry_at (entries_of table.now) k) }
+// The entry has that (node, sequence).
+fn pair_is(entry: &[u8; ENTRY], author: Author) -> bool
+    ensures { result ≡ same_pair (entry_by author 0 0) (entry_of entry.now) }
 {
-    let pair = (author.node as u64) * SEQUENCES + author.sequence as u64;
-    pair == pair_of(table, k)
+    u64::from(author.node) * SEQUENCES + u64::from(author.sequence) == pair_of(entry)
 }
 
-// One of the first n entries has that (node, sequence).
-fn is_listed(table: &[u8], n: usize, author: Author) -> bool
-    requires { n ≤ length table.now / entry_size }
-    ensures { result ≡ listed (entry_by author 0 0) (take n (entries_of table.now)) }
+// One of the entries has that (node, sequence).
+fn is_listed(entries: &[[u8; ENTRY]], author: Author) -> bool
+    ensures { result ≡ list_any (λ s. same_pair (entry_by author 0 0) (entry_of s)) entries.now }
 {
-    let mut k: usize = 0;
-    while k < n {
-        if pair_is(table, k, author) {
-            return true;
-        }
-        k += 1;
-    }
-    false
+    entries.iter().any(|entry| pair_is(entry, author))
 }
 
 // The nodes in groups: of each group the check keeps the greatest sequence so far. A unit counts its sequences up, so that the next of its
@@ -149,82 +118,70 @@ const GROUPS: usize = 8;
 fn group_of(node: u16) -> usize
     ensures { (result ≡ group_of node) × (result < groups) }
 {
-    node as usize % GROUPS
+    usize::from(node) % GROUPS
 }
 
 // No entry before entry i has its (node, sequence): a sequence above the greatest of its group is none of theirs, and is kept; another is held
 // against each.
-fn is_new(table: &[u8], i: usize, tops: &mut [u32]) -> bool
-    requires { (i < length table.now / entry_size) × (length tops.old ≡ groups) × Under (entries_of table.now) i tops.old }
-    ensures value { result ≡ not (listed (entry_at (entries_of table.now) i) (take i (entries_of table.now))) }
-    ensures tops_len { (length tops.new ≡ groups) × Under (entries_of table.now) (i + 1) tops.new }
+fn is_new(entries: &[[u8; ENTRY]], i: usize, tops: &mut [u32; GROUPS]) -> bool
+    requires { (i < length entries.now) × Under (entries_in entries.now) i tops.old }
+    ensures value { result ≡ not (listed (entry_at (entries_in entries.now) i) (take i (entries_in entries.now))) }
+    ensures under { Under (entries_in entries.now) (i + 1) tops.new }
 {
-    let node = node_of(table, i);
-    let sequence = sequence_of(table, i);
+    let node = node_of(&entries[i]);
+    let sequence = sequence_of(&entries[i]);
     let group = group_of(node);
     if tops[group] < sequence {
         tops[group] = sequence;
         return true;
     }
-    if is_listed(table, i, Author { node, sequence }) {
-        return false;
-    }
-    true
+    !is_listed(&entries[..i], Author { node, sequence })
 }
 
 // "Every other entry has node at least 1, a parent index below its own index, and a (node, sequence) that no other entry has"; "a count
 // outside 1..256 in an entry other than entry 0 is 13". The greatest sequences before it are `tops`, which then has its own too.
-fn entry_ok(table: &[u8], i: usize, tops: &mut [u32]) -> bool
-    requires { (i < length table.now / entry_size) × (length tops.old ≡ groups) × Under (entries_of table.now) i tops.old }
-    ensures value { result ≡ keeps_entry (entries_of table.now) i (entry_at (entries_of table.now) i) }
-    ensures tops_len { result ≡ true → (length tops.new ≡ groups) × Under (entries_of table.now) (i + 1) tops.new }
+fn entry_ok(entries: &[[u8; ENTRY]], i: usize, tops: &mut [u32; GROUPS]) -> bool
+    requires { (i < length entries.now) × Under (entries_in entries.now) i tops.old }
+    ensures value { result ≡ keeps_entry (entries_in entries.now) i (entry_at (entries_in entries.now) i) }
+    ensures under { result ≡ true → Under (entries_in entries.now) (i + 1) tops.new }
 {
-    if node_of(table, i) < 1 {
-        return false;
-    }
-    if i <= parent_of(table, i) {
-        return false;
-    }
-    if !count_ok(count_of(table, i)) {
-        return false;
-    }
-    is_new(table, i, tops)
+    let entry = &entries[i];
+    1 <= node_of(entry)
+        && parent_of(entry) < i
+        && count_ok(count_of(entry))
+        && is_new(entries, i, tops)
 }
 
-// Every entry but entry 0, which is all zero.
-fn others_ok(table: &[u8]) -> bool
-    requires { (0 < length table.now / entry_size) × (is_first (entry_at (entries_of table.now) 0) ≡ true) }
-    ensures { result ≡ keeps_from (entries_of table.now) 1 (drop 1 (entries_of table.now)) }
+// Entry 0, which is all zero, and every other entry.
+fn entries_ok(entries: &[[u8; ENTRY]]) -> bool
+    requires { 0 < length entries.now }
+    ensures { result ≡ (is_first (entry_at (entries_in entries.now) 0) && keeps_from (entries_in entries.now) 1 (drop 1 (entries_in entries.now))) }
 {
-    let n = table.len() / ENTRY;
+    if !first_ok(&entries[0]) {
+        return false;
+    }
     let mut tops = [0u32; GROUPS];
-    let mut i: usize = 1;
-    while i < n {
-        if !entry_ok(table, i, &mut tops) {
+    for i in 1..entries.len() {
+        if !entry_ok(entries, i, &mut tops) {
             return false;
         }
-        i += 1;
     }
     true
+}
+
+// "An epoch table is 1..32 entries"
+fn size_ok(entries: usize) -> bool
+    ensures { result ≡ within 1 max_entries entries }
+{
+    (1..=ENTRIES).contains(&entries)
 }
 
 // The layout of an epoch table.
 pub fn table_ok(table: &[u8]) -> bool
     ensures { result ≡ keeps_table table.now }
 {
-    if table.len() % ENTRY != 0 {
-        return false;
-    }
-    if table.len() < ENTRY {
-        return false;
-    }
-    if TABLE < table.len() {
-        return false;
-    }
-    if !first_ok(table) {
-        return false;
-    }
-    others_ok(table)
+    let (entries, rest) = table.as_chunks::<ENTRY>();
+    rest.is_empty() && size_ok(entries.len()) && entries_ok(entries)
 }
 
 // 13; else the count of the table's entries.
@@ -241,114 +198,131 @@ pub fn check_table(table: &[u8]) -> Answer
 
 // "by that number first, then node, then sequence": the key of the comparison stands here, and nowhere else. The three are one number, the
 // count its highest part, so that keys compare as these numbers do.
-fn key_of(table: &[u8], k: usize) -> u64
-    requires { k < length table.now / entry_size }
-    ensures { result ≡ key_number (entry_at (entries_of table.now) k) }
+fn key_of(entry: &[u8; ENTRY]) -> u64
+    ensures { result ≡ key_number (entry_of entry.now) }
 {
-    (count_of(table, k) as u64) * NODES * SEQUENCES + pair_of(table, k)
+    u64::from(count_of(entry)) * NODES * SEQUENCES + pair_of(entry)
 }
 
-// The key of entry i is below that of entry j.
-fn is_below(table: &[u8], i: usize, j: usize) -> bool
-    requires { (i < length table.now / entry_size) × (j < length table.now / entry_size) }
-    ensures { result ≡ is_lt (compare_keys (entry_at (entries_of table.now) i) (entry_at (entries_of table.now) j)) }
+// The key of the first entry is below that of the second.
+fn is_below(entry: &[u8; ENTRY], other: &[u8; ENTRY]) -> bool
+    ensures { result ≡ is_lt (compare_keys (entry_of entry.now) (entry_of other.now)) }
 {
-    key_of(table, i) < key_of(table, j)
+    key_of(entry) < key_of(other)
 }
 
 // ── the tree ──
 
-// From here on the table is the first `size` bytes of an array. A reference to an array is one number, and the compiler makes a loop of a
-// function that ends by calling itself where each of its parameters is one: so the recursion needs no stack.
-
-fn byte_at(s: &[u8], p: usize) -> usize
-    requires { p < length s.now }
-    ensures { result ≡ get_or s.now p 0 }
-{
-    s[p] as usize
+// A checked table, whose epochs are a tree. A reference to it is one number, and the compiler makes a loop of a method that ends by calling
+// itself where each other parameter is a number or a bool: so the recursion needs no stack.
+#[derive(Clone, Copy)]
+struct Tree<'a> {
+    entries: &'a [[u8; ENTRY]],
+    ghost is_table: { is_table (entries_in entries.now) ≡ true },
 }
 
-// A parent's index is below 32, so that its second byte is all of it.
-fn parent_in(tree: &[u8; TABLE], size: usize, k: usize) -> usize
-    requires { (keeps_table (take size tree.now) ≡ true) × (k < length (take size tree.now) / entry_size) }
-    ensures { result ≡ parent_of (entries_of (take size tree.now)) k }
-{
-    byte_at(tree, ENTRY * k + PARENT + 1)
-}
+impl<'a> Tree<'a> {
+    // A parent's index is below 32, so that its second byte is all of it.
+    fn parent(&self, k: usize) -> usize
+        requires { k < length self.now.entries.now }
+        ensures { result ≡ parent_of (entries_in self.now.entries.now) k }
+    {
+        usize::from(self.entries[k][PARENT + 1])
+    }
 
-// The key of entry i is below that of entry j, in the array.
-fn key_below(tree: &[u8; TABLE], size: usize, i: usize, j: usize) -> bool
-    requires { (i < length (take size tree.now) / entry_size) × (j < length (take size tree.now) / entry_size) }
-    ensures { result ≡ is_lt (compare_keys (entry_at (entries_of (take size tree.now)) i) (entry_at (entries_of (take size tree.now)) j)) }
-{
-    is_below(tree, i, j)
-}
+    // The first of two epochs is the smaller by their paths, each "traced back through parents, each with a smaller index"; `tie` is what
+    // two equal ones come to. Of two that have different parents the one with the greater parent index, say i under p, is compared by p: j
+    // is not under p, since its parent's index is below p, so p's path decides as i's would, and where p is j itself, i's path goes on and
+    // is the greater.
+    fn is_smaller(&self, i: usize, j: usize, tie: bool) -> bool
+        requires { (i < length self.now.entries.now) × (j < length self.now.entries.now) }
+        ensures { result ≡ is_lt (ordering_then (compare_epochs (entries_in self.now.entries.now) i j) (cond tie Less Greater)) }
+    {
+        if i == j {
+            return tie;
+        }
+        if i < 1 {
+            return true;
+        }
+        if j < 1 {
+            return false;
+        }
+        let p = self.parent(i);
+        let q = self.parent(j);
+        if p == q {
+            return is_below(&self.entries[i], &self.entries[j]);
+        }
+        if q < p {
+            return self.is_smaller(p, j, false);
+        }
+        self.is_smaller(i, q, true)
+    }
 
-// The first of two epochs is the smaller by their paths, each "traced back through parents, each with a smaller index"; `tie` is what two
-// equal ones come to. Of two that have different parents the one with the greater parent index, say i under p, is compared by p: j is not
-// under p, since its parent's index is below p, so p's path decides as i's would, and where p is j itself, i's path goes on and is the
-// greater.
-fn is_smaller(tree: &[u8; TABLE], size: usize, i: usize, j: usize, tie: bool) -> bool
-    requires { (keeps_table (take size tree.now) ≡ true) × (i < length (take size tree.now) / entry_size) × (j < length (take size tree.now) / entry_size) }
-    ensures { result ≡ is_lt (ordering_then (compare_epochs (entries_of (take size tree.now)) i j) (cond tie Less Greater)) }
-{
-    if i == j {
-        return tie;
+    // The one of two epochs with the greater path.
+    fn greater(&self, i: usize, j: usize) -> usize
+        requires { (i < length self.now.entries.now) × (j < length self.now.entries.now) }
+        ensures { result ≡ greater (entries_in self.now.entries.now) i j }
+    {
+        if self.is_smaller(i, j, false) { j } else { i }
     }
-    if i < 1 {
-        return true;
-    }
-    if j < 1 {
-        return false;
-    }
-    let p = parent_in(tree, size, i);
-    let q = parent_in(tree, size, j);
-    if p == q {
-        return key_below(tree, size, i, j);
-    }
-    if q < p {
-        return is_smaller(tree, size, p, j, false);
-    }
-    is_smaller(tree, size, i, q, true)
-}
 
-// ── the target ──
-
-// The one of two epochs with the greater path.
-fn greater_of(tree: &[u8; TABLE], size: usize, i: usize, j: usize) -> usize
-    requires { (keeps_table (take size tree.now) ≡ true) × (i < length (take size tree.now) / entry_size) × (j < length (take size tree.now) / entry_size) }
-    ensures { result ≡ greater (entries_of (take size tree.now)) i j }
-{
-    if is_smaller(tree, size, i, j, false) {
-        j
-    } else {
-        i
+    // "The target is the greatest."
+    fn target(&self) -> usize
+        ensures { result ≡ target_of (entries_in self.now.entries.now) }
+    {
+        let mut best = 0;
+        for k in 1..self.entries.len() {
+            best = self.greater(best, k);
+        }
+        best
     }
-}
 
-// "The target is the greatest."
-fn target(tree: &[u8; TABLE], size: usize) -> usize
-    requires { (keeps_table (take size tree.now) ≡ true) × (size ≤ length tree.now) }
-    ensures { result ≡ target_of (entries_of (take size tree.now)) }
-{
-    let n = size / ENTRY;
-    let mut best: usize = 0;
-    let mut k: usize = 1;
-    while k < n {
-        best = greater_of(tree, size, best, k);
-        k += 1;
+    // Of d's path, "traced back through parents, each with a smaller index", the last epoch whose index is above c: it is under c where c
+    // is on the path, since no other then is.
+    fn above(&self, d: usize, c: usize) -> usize
+        requires { (d < length self.now.entries.now) × (c < d) }
+        ensures c_value { step_to (entries_in self.now.entries.now) result c ≡ step_to (entries_in self.now.entries.now) d c }
+        ensures lower_bound { (c < result) × (result ≤ d) × (parent_of (entries_in self.now.entries.now) result ≤ c) }
+    {
+        let p = self.parent(d);
+        if p <= c {
+            return d;
+        }
+        self.above(p, c)
     }
-    best
+
+    // The step from c towards d: c can be on d's path only where its index is the smaller, and the epoch on it whose parent is c is the
+    // child that the step goes down to.
+    fn step_to(&self, d: usize, c: usize) -> Step
+        requires { (d < length self.now.entries.now) × (c < length self.now.entries.now) }
+        ensures { result ≡ step_to (entries_in self.now.entries.now) d c }
+    {
+        if d == c {
+            return Step::Stay;
+        }
+        if d < c {
+            return Step::Up(self.parent(c));
+        }
+        let child = self.above(d, c);
+        if self.parent(child) == c {
+            return Step::Down(child);
+        }
+        Step::Up(self.parent(c))
+    }
+
+    // The step from c towards the target.
+    fn next_step(&self, c: usize) -> Step
+        requires { c < length self.now.entries.now }
+        ensures { result ≡ next_step (entries_in self.now.entries.now) c }
+    {
+        self.step_to(self.target(), c)
+    }
 }
 
 // ── the next step ──
 
 // What comes back of a question for the next step.
-#[derive(Clone, Copy)]
-pub enum Next {
-    Take(Step),
-    Refused(Refusal),
-}
+pub type Next = Result<Step, Refusal>;
 
 // 0 stay, 1 up, 2 down.
 fn number_of(s: Step) -> u8
@@ -367,8 +341,7 @@ fn index_of(s: Step) -> usize
 {
     match s {
         Step::Stay => 0,
-        Step::Up(i) => i,
-        Step::Down(i) => i,
+        Step::Up(i) | Step::Down(i) => i,
     }
 }
 
@@ -376,102 +349,45 @@ fn index_of(s: Step) -> usize
 pub fn step_number(n: Next) -> u8
     ensures { result ≡ number_in n }
 {
-    match n {
-        Next::Take(s) => number_of(s),
-        Next::Refused(_) => 0,
-    }
+    n.map_or(0, number_of)
 }
 
 pub fn step_index(n: Next) -> usize
     ensures { result ≡ index_in n }
 {
-    match n {
-        Next::Take(s) => index_of(s),
-        Next::Refused(_) => 0,
-    }
+    n.map_or(0, index_of)
 }
 
 // The answer in what comes back, whose count is 0.
 pub fn answer(n: Next) -> Answer
     ensures { result ≡ answer_of n }
 {
-    match n {
-        Next::Take(_) => Ok(0),
-        Next::Refused(r) => Err(r),
-    }
-}
-
-// Of d's path, "traced back through parents, each with a smaller index", the last epoch whose index is above c: it is under c where c is on
-// the path, since no other then is.
-fn above(tree: &[u8; TABLE], size: usize, d: usize, c: usize) -> usize
-    requires { (keeps_table (take size tree.now) ≡ true) × (d < length (take size tree.now) / entry_size) × (c < d) }
-    ensures c_value { step_to (entries_of (take size tree.now)) result c ≡ step_to (entries_of (take size tree.now)) d c }
-    ensures lower_bound { (c < result) × (result ≤ d) × (parent_of (entries_of (take size tree.now)) result ≤ c) }
-{
-    let p = parent_in(tree, size, d);
-    if p <= c {
-        return d;
-    }
-    above(tree, size, p, c)
-}
-
-// The step from c towards d: c can be on d's path only where its index is the smaller, and the epoch on it whose parent is c is the child
-// that the step goes down to.
-fn step_to(tree: &[u8; TABLE], size: usize, d: usize, c: usize) -> Step
-    requires { (keeps_table (take size tree.now) ≡ true) × (d < length (take size tree.now) / entry_size) × (c < length (take size tree.now) / entry_size) }
-    ensures { result ≡ step_to (entries_of (take size tree.now)) d c }
-{
-    if d == c {
-        return Step::Stay;
-    }
-    if d < c {
-        return Step::Up(parent_in(tree, size, c));
-    }
-    let child = above(tree, size, d, c);
-    if parent_in(tree, size, child) == c {
-        return Step::Down(child);
-    }
-    Step::Up(parent_in(tree, size, c))
-}
-
-// The step from c towards the target of a table.
-fn step_in(table: &[u8], c: usize) -> Step
-    requires { (keeps_table table.now ≡ true) × (c < length table.now / entry_size) }
-    ensures { result ≡ next_step (entries_of table.now) c }
-{
-    let mut tree = [0u8; TABLE];
-    numbers::copy(&mut tree, 0, table);
-    let size = table.len();
-    let d = target(&tree, size);
-    step_to(&tree, size, d, c)
+    n.map(|_| 0)
 }
 
 // 13, 14; else the next step.
 pub fn next_step(table: &[u8], current: usize) -> Next
     ensures { result ≡ next_step_outcome table.now current }
 {
-    if !table_ok(table) {
-        return Next::Refused(Refusal::BadTable);
+    let n = check_table(table)?;
+    if n <= current {
+        return Err(Refusal::NoEpoch);
     }
-    if table.len() / ENTRY <= current {
-        return Next::Refused(Refusal::NoEpoch);
-    }
-    Next::Take(step_in(table, current))
+    let (entries, _) = table.as_chunks::<ENTRY>();
+    let tree = Tree { entries };
+    Ok(tree.next_step(current))
 }
 
 // ── adding ──
 
-// An entry from p on, in two words of four bytes and the count.
+// An entry from p on.
 fn write_entry(out: &mut [u8], p: usize, author: Author, parent: usize, count: u16)
     requires { (p + entry_size ≤ length out.old) × (parent < 65536) }
     ensures { out.new ≡ put out.old p (entry_bytes (entry_by author parent count)) }
 {
-    numbers::write_u32(
-        out,
-        p,
-        (author.node as u32) * 65536 + author.sequence / 65536,
-    );
-    numbers::write_u32(out, p + 4, author.sequence % 65536 * 65536 + parent as u32);
+    numbers::write_u16(out, p, author.node);
+    numbers::write_u32(out, p + SEQUENCE, author.sequence);
+    numbers::write_u16(out, p + PARENT, parent as u16);
     numbers::write_u16(out, p + COUNT, count);
 }
 
@@ -481,10 +397,7 @@ pub fn add(table: &[u8], parent: usize, author: Author, count: u16, out: &mut [u
     ensures value { result ≡ (add_outcome table.now parent author count (length out.old)).answer }
     ensures out_after { out.new ≡ leaves (add_outcome table.now parent author count (length out.old)) out.old }
 {
-    if !table_ok(table) {
-        return Err(Refusal::BadTable);
-    }
-    let n = table.len() / ENTRY;
+    let n = check_table(table)?;
     if n <= parent {
         return Err(Refusal::NoEpoch);
     }
@@ -494,7 +407,8 @@ pub fn add(table: &[u8], parent: usize, author: Author, count: u16, out: &mut [u
     if !count_ok(count) {
         return Err(Refusal::BadTable);
     }
-    if is_listed(table, n, author) {
+    let (entries, _) = table.as_chunks::<ENTRY>();
+    if is_listed(entries, author) {
         return Err(Refusal::Listed);
     }
     if ENTRIES <= n {

@@ -1,34 +1,43 @@
 -- `epochs::next_step` meets its contract. Assumes nothing.
-use mathlib.Core.Path.{sym, ap, ◌∙◌}
-use Prim.Native.Nat.{◌<◌, ◌≤◌}
-use native.Mathlib.Omega.{arith}
-use lib.ListN.{length}
-use borrow.Author.Tests.{lt-ltb, le-ltb}
-use Rattle.epoch_tree.specs.Tables.{entries_of}
+use Rattle.std.proofs.Common.{sym, ap, ◌∙◌, ◌<◌, ◌≤◌, length, List, lt-ltb, le-ltb, arith}
+use Rattle.std.proofs.lemmas.Result.{err_from_is_err_and}
+use Rattle.std.specs.declared.result.Result.TheVariants.{Ok}
+use Rattle.numbers.specs.Bytes.{Bytes}
+use Rattle.epoch_tree.specs.Tables.{entries_in, entries_of, is_table}
+use Rattle.epoch_tree.specs.Tree.{next_step as step_from}
+use Rattle.epoch_tree.proofs.TableBytes.{entries_table}
 use Rattle.epochs.specs.Calls.{next_step_outcome}
-use Rattle.epoch_tree.proofs.TableBytes.{length_entries}
-use Rattle.epochs.specs.declared.Next.TheVariants.{Take}
+use Rattle.epochs.proofs.Checks.{checked, unchecked}
 use Rattle.epochs.proofs.next_step.Goals as goal
 
-pub returns-then-not-table_ok : goal.returns-then-not-table_ok
+pub returns-in_err-n : goal.returns-in_err-n
 unfolding next_step_outcome
-returns-then-not-table_ok c = simp (sym c.table_ok.ensures ∙ c.if-not-table_ok.true)
+returns-in_err-n c =
+    let told = err_from_is_err_and c.from_residual.result c.from_residual.ensures.1 in
+    let bad = unchecked c.args.table.now _ (sym c.check_table.ensures ∙ c.in_err-n.was) in
+    rw (told.1, told.2, bad.1) (simp bad.0)
 
-pub returns-then-table-current : goal.returns-then-table-current
+pub returns-then-n-current : goal.returns-then-n-current
 unfolding next_step_outcome
-returns-then-table-current c =
-    let kept = sym c.table_ok.ensures ∙ c.if-not-table_ok.false in
-    let t = entries_of c.args.table.now in
-    let past : length t ≤ c.args.current = omega (arith, length_entries c.args.table.now) in
-    simp (kept, le-ltb c.args.current (length t) past)
+returns-then-n-current c =
+    let kept = checked c.args.table.now _ (sym c.check_table.ensures ∙ c.in_ok-n.was) in
+    let past : length (entries_of c.args.table.now) ≤ c.args.current = omega arith in
+    simp (kept.0, le-ltb c.args.current (length (entries_of c.args.table.now)) past)
 
-pub step_in-requires : goal.step_in-requires
-step_in-requires c = (sym c.table_ok.ensures ∙ c.if-not-table_ok.false, c.if-table-current.false)
+pub invariant_of-tree : goal.invariant_of-tree
+invariant_of-tree c =
+    let kept = checked c.args.table.now _ (sym c.check_table.ensures ∙ c.in_ok-n.was) in
+    record { is_table = ap (λ (b : List Bytes). is_table (entries_in b)) c.as_chunks.ensures.front ∙ entries_table c.args.table.now kept.0 }
+
+pub next_step-requires : goal.next_step-requires
+next_step-requires c =
+    let kept = checked c.args.table.now _ (sym c.check_table.ensures ∙ c.in_ok-n.was) in
+    omega (arith, c.as_chunks.ensures.front_len)
 
 pub returns : goal.returns
 unfolding next_step_outcome
 returns c =
-    let kept = sym c.table_ok.ensures ∙ c.if-not-table_ok.false in
-    let t = entries_of c.args.table.now in
-    let inside : c.args.current < length t = omega (arith, length_entries c.args.table.now) in
-    simp (kept, lt-ltb c.args.current (length t) inside) (ap Take c.step_in.ensures)
+    let kept = checked c.args.table.now _ (sym c.check_table.ensures ∙ c.in_ok-n.was) in
+    let inside : c.args.current < length (entries_of c.args.table.now) = omega arith in
+    let step = ap (λ (b : List Bytes). step_from (entries_in b) c.args.current) c.as_chunks.ensures.front in
+    simp (kept.0, lt-ltb c.args.current (length (entries_of c.args.table.now)) inside) (ap Ok (c.next_step.ensures ∙ step))

@@ -1,5 +1,0 @@
-use Rattle.epochs.proofs.+above.Given as goal
-
--- the index falls to that of its parent
-abbrev pub decreases-above : goal.decreases-above
-decreases-above l = l.d
