@@ -1,6 +1,6 @@
 -- One look at a form, group by group: what holds while it goes on (`Looking`), at first (`looking_first`), after one group more (`looking_rises`,
 -- `looking_falls`), at the end (`looking_end`) and where it is given up (`looking_unstood`, `looking_bad`, `looking_joins`); and what it has told
--- (`looked_all`, `looked_none`; `none_looked`, `some_looked`). Assumes nothing.
+-- (`looked_all`, `looked_none`; `none_looked`, `some_looked`; `look_passed`, `look_refused`). Assumes nothing.
 use mathlib.Core.Path.{◌≡◌, refl, sym, ap, ◌∙◌, subst}
 use mathlib.Core.List.{List, [], ◌∷◌}
 use mathlib.Core.Bool.{Bool, true, false, cond, ◌&&◌, and-true, and-false, and_assoc}
@@ -12,7 +12,14 @@ use Rattle.names.specs.Ordering.{Row, compare_rows, rising}
 use Rattle.std.specs.Ordering.{is_lt}
 use Rattle.numbers.specs.Bytes.{Bytes}
 use Rattle.numbers.proofs.Bools.{never}
+use Rattle.std.specs.declared.option.Option.{Option}
 use Rattle.std.specs.declared.option.Option.TheVariants.{Some, None}
+use Rattle.std.specs.declared.result.Result.{Result}
+use Rattle.std.specs.declared.result.Result.TheVariants.{Ok, Err}
+use Rattle.std.specs.Option.{ok_or}
+use Rattle.std.specs.Result.{result_ok}
+use Rattle.answers.specs.declared.Refusal.{Refusal}
+use Rattle.answers.specs.declared.Refusal.TheVariants.{Malformed}
 use Rattle.std.specs.List.{list_all}
 use Rattle.slots.specs.Tuples.{row_at}
 use Rattle.slots.proofs.TuplesInBytes.{length_tuples_at}
@@ -77,6 +84,14 @@ module _ (s : Bytes) (x : Row) where
       by : (b : Bool) → keeps_form s ≡ b → (keeps_form s ≡ true) × (r ≡ all_told s x)
       by true e = let z : Some r ≡ Some (all_told s x) = q ∙ sym (looked_all e) in (e, cc)
       by false e = let z : Some r ≡ None = q ∙ sym (looked_none e) in absurd (let w : ◌≡◌ {A = ℕ} 0 1 = cc in omega arith)
+
+-- as a call has it that refuses what is no form, by `ok_or`
+pub look_passed : {o : Option Looked} {r : Result Looked Refusal} {l : Looked} → o ≡ result_ok r → r ≡ Ok l → Some l ≡ o
+look_passed e f = sym (e ∙ ap result_ok f)
+
+pub look_refused : (o : Option Looked) {r : Result Looked Refusal} {y : Refusal} → r ≡ ok_or o Malformed → r ≡ Err y → (None ≡ o) × (y ≡ Malformed)
+look_refused None e f = let z : ◌≡◌ {A = Result Looked Refusal} (Err _) (Err Malformed) = sym f ∙ e in (refl, cc)
+look_refused (Some l) e f = let z : ◌≡◌ {A = Result Looked Refusal} (Err _) (Ok l) = sym f ∙ e in absurd (let w : ◌≡◌ {A = ℕ} 0 1 = cc in omega arith)
 
 -- how a name comes after a group, by what that asks
 joins_told : (c d : Bool) → cond c (cond d Rises Falls) Joins ≡ Joins → c ≡ false
