@@ -33,7 +33,7 @@ use Rattle.forms.specs.declared.Block.{Block}
 use Rattle.forms.specs.declared.Place.{Place}
 use Rattle.forms.specs.declared.Looked.{Looked}
 use Rattle.forms.specs.declared.After.TheVariants.{Joins, Falls, Rises}
-use Rattle.forms.specs.Blocks.{no_block, after_name, block_here, block_at, end_of, group_of, Stood, Sound, last_name, after_group_of, nowhere, sought, sought_from, looked}
+use Rattle.forms.specs.Blocks.{no_block, after_name, block_here, block_at, end_of, group_of, Stood, Sound, last_name, after_group_of, nowhere, sought, sought_from, all_told, looked}
 use Rattle.forms.proofs.BlockAt.{none_told, some_told, block_group, block_end, block_after}
 use Rattle.forms.proofs.GroupsInBlocks.{group_size, group_named}
 use Rattle.forms.proofs.Seeking.{sought_few}
@@ -56,15 +56,8 @@ pub record Looking (s : Bytes) (x : Row) (place : Place) (last : Block) (rises :
 
 -- ── what it tells ──
 
--- of a form ..
-abbrev pub all_told : Bytes → Row → Looked
-all_told s x = record {
-  rises = rising (names_in (groups_in s));
-  slots = length (slots_of_form s);
-  place = sought_from x 0 nowhere (groups_in s);
-}
-
 module _ (s : Bytes) (x : Row) where
+  -- of a form ..
   pub looked_all : keeps_form s ≡ true → Some (all_told s x) ≡ looked s x
   unfolding looked
   looked_all e = sym (ap (λ (b : Bool). cond b (Some (all_told s x)) None) e)

@@ -96,16 +96,16 @@ sought_from x p place (g ∷ gs) = sought_from x (p + length (group_bytes g)) (s
 
 -- ── one look at a form ──
 
+-- what it tells of a form
+abbrev pub all_told : Bytes → Row → Looked
+all_told s x = record {
+  rises = rising (map name_in (slots_of_form s));
+  slots = length (slots_of_form s);
+  place = sought_from x 0 nowhere (groups_in s);
+}
+
 unfoldable pub looked : Bytes → Row → Option Looked
-looked s x =
-    cond (keeps_form s)
-    (Some
-    (record {
-      rises = rising (map name_in (slots_of_form s));
-      slots = length (slots_of_form s);
-      place = sought_from x 0 nowhere (groups_in s);
-    }))
-    None
+looked s x = cond (keeps_form s) (Some (all_told s x)) None
 
 -- ── what stands before the line numbers of a group of so many slots ──
 

@@ -11,7 +11,7 @@ use Rattle.slots.specs.Slots.{name_of}
 use Rattle.groups.specs.Forms.{group_stands}
 use Rattle.forms.specs.declared.Block.{Block}
 use Rattle.forms.specs.declared.Place.{Place}
-use Rattle.forms.specs.Blocks.{not_above}
+use Rattle.std.specs.Ordering.{is_le}
 use Rattle.answers.specs.Answers.{Outcome, leaves}
 use Rattle.answers.proofs.Outcomes.{refused}
 use Rattle.slots.specs.Tuples.{row_at}
@@ -57,7 +57,7 @@ meet-requires c =
       within = (c.block_by-block.ensures.stood.0, e.lies, given_named s t octets slot_octets c.args.name e);
       name_value = λ l.
           let v = block_low s t octets slot_octets c.args.name e b f l in
-          (v.0, ap (λ (r : Row). not_above (compare_rows (row_at s b.name) r)) e.named ∙ v.1);
+          (v.0, ap (λ (r : Row). is_le (compare_rows (row_at s b.name) r)) e.named ∙ v.1);
     }
 
 pub taken_out-requires : goal.taken_out-requires
