@@ -2,7 +2,7 @@
 use mathlib.Core.Path.{◌≡◌, refl, ◌∙◌, sym, ap, subst}
 use mathlib.Core.List.{List, [], ◌∷◌, ◌++◌, append_assoc}
 use mathlib.Core.Bool.{Bool, true, false, cond}
-use Prim.Native.Nat.{ℕ, ◌*◌, ◌<◌, ◌≤◌}
+use Prim.Native.Nat.{ℕ, ◌<◌, ◌≤◌}
 use native.Mathlib.Omega.{arith}
 use native.Mathlib.Decide.{dec_le}
 use borrow.Author.Tests.{ltb-true, lt-ltb, le-ltb, eq-eqb, ne_eqb}
@@ -12,12 +12,12 @@ use Rattle.names.specs.Ordering.{Row, compare_rows}
 use Rattle.names.specs.Names.{is_name}
 use Rattle.numbers.specs.Bytes.{Bytes, Octets}
 use Rattle.slots.specs.declared.Span.{Span}
-use Rattle.slots.specs.Tuples.{row_at, Within}
+use Rattle.slots.specs.Tuples.{row_at}
 use Rattle.slots.specs.Slots.{name_of}
 use Rattle.numbers.proofs.Bools.{yes_no}
 use Rattle.runs.specs.Runs.{onward, is_next}
-use Rattle.fields.specs.Fields.{field_head, longest_content}
-use Rattle.groups.specs.Groups.{Group, size, line_size}
+use Rattle.fields.specs.Fields.{field_head}
+use Rattle.groups.specs.Groups.{Group, size}
 use Rattle.groups.specs.Forms.{form_bytes, groups_in, group_stands}
 use Rattle.forms.specs.declared.Block.{Block}
 use Rattle.forms.specs.Blocks.{no_block, block_here, end_of, Stood as Stands}

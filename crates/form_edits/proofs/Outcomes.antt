@@ -8,22 +8,22 @@ use mathlib.Core.Bool.{Bool, true, false, not}
 use Prim.Native.Nat.{ℕ, ◌<◌, ◌≤◌}
 use native.Mathlib.Omega.{arith}
 use borrow.Author.Tests.{lt-ltb, le-ltb}
-use lib.Dec.{ltb, leb}
+use lib.Dec.{ltb}
 use lib.ListN.{length}
-use Rattle.names.specs.Ordering.{Row, rising}
+use Rattle.names.specs.Ordering.{Row}
 use Rattle.numbers.specs.Bytes.{Bytes, Octets}
 use Rattle.slots.specs.declared.Span.{Span}
 use Rattle.slots.specs.Slots.{Slot, name_of, slot_of, keeps_slot}
 use Rattle.answers.specs.declared.Refusal.{Refusal}
-use Rattle.answers.specs.declared.Refusal.TheVariants.{BadLayout, NotRising, Present, Absent, Full, Malformed}
-use Rattle.answers.specs.Answers.{Test, ◌else◌, ask, in_order, refuse, write, outcome}
+use Rattle.answers.specs.declared.Refusal.TheVariants.{BadLayout, Present, Absent, Full}
+use Rattle.answers.specs.Answers.{Test, ◌else◌, in_order, refuse, write, outcome}
 use Rattle.answers.specs.Laws.{Passed, FirstFails, here, later}
 use Rattle.answers.proofs.Refusals.{reached, refuses, failed}
 use Rattle.pages.specs.Pages.{max_slots, name_in}
 use Rattle.pages.specs.Places.{has}
 use Rattle.fields.specs.Fields.{single}
 use Rattle.edits.specs.Edits.{placed, without, insert_outcome, remove_outcome}
-use Rattle.groups.specs.Forms.{groups_in, slots_of_form, keeps_form}
+use Rattle.groups.specs.Forms.{slots_of_form}
 use Rattle.groups.specs.Calls.{form_pieces, form_tests, page_of, ample, regroup, insert_form_outcome, remove_form_outcome}
 use Rattle.groups.proofs.FormEdits.{insert_tests, remove_tests, insert_slots, remove_slots}
 use Rattle.forms.specs.declared.Looked.{Looked}
