@@ -1,6 +1,5 @@
 pub mod Entries
 pub mod Checks
-pub mod EntryNumbers
 pub mod LoopTurns
 pub mod AddOutcomes
 pub mod Laws

@@ -1,14 +1,13 @@
--- A turn of each loop along a table's entries, and its end: `listed_turn`, `listed_end`; `keeps_turn`, `keeps_end`; `greatest_turn`.
--- The tests of a table in the code's order (`tests`). Whether an entry is listed depends on its pair alone (`listed_pair`), and
--- `listed_all` is of all entries of a table. A pair is new whose sequence is above those of its group before it (`new_pair`), of which the
--- greatest are kept (`under_same`, `under_raised`). Assumes nothing.
+-- The tests of a table in the code's order (`tests`), and a turn of the loop along its entries, and its end (`keeps_turn`, `keeps_end`).
+-- Whether an entry is listed depends on its pair alone (`listed_pair`), and is asked of the entries' bytes (`listed_among`). A pair is new
+-- whose sequence is above those of its group before it (`new_pair`), of which the greatest are kept (`under_same`, `under_raised`). Assumes
+-- nothing.
 use mathlib.Core.Path.{◌≡◌, refl, sym, ap, subst, ◌∙◌}
-use mathlib.Core.Logic.{inl, inr}
 use mathlib.Core.List.{List, [], ◌∷◌}
 use mathlib.Core.Bool.{Bool, true, false, ◌&&◌, ◌||◌}
-use Prim.Native.Nat.{ℕ, suc, ◌+◌, ◌-◌, ◌/◌, ◌%◌, ◌<◌, ◌≤◌}
+use Prim.Native.Nat.{ℕ, ◌+◌, ◌/◌, ◌%◌, ◌<◌, ◌≤◌}
 use native.Mathlib.Numerals.{add-one}
-use native.Mathlib.Decide.{dec_lt}
+use native.Mathlib.Decide.{ℕ_discrete, dec_lt}
 use native.Mathlib.Omega.{arith}
 use lib.Dec.{eqb, leb}
 use lib.ListN.{length, take, drop, get_or, set, length-take, drop_of_length-le}
@@ -16,11 +15,9 @@ use lib.Seq.{drop-cons, get_or-take, get_or-set_same, get_or-set_other}
 use Rattle.numbers.specs.Bytes.{Bytes}
 use Rattle.std.specs.List.{list_any}
 use Rattle.epoch_tree.specs.Tables.{Entry, entry_of, entries_in, entry_size, max_entries, zero_entry, entry_at, entries_of, is_first, same_pair, listed, keeps_entry, keeps_from, is_table, keeps_table}
-use Rattle.epoch_tree.specs.Tree.{greater, greatest_to}
 use Rattle.epoch_tree.proofs.TableBytes.{length_entries}
 use Rattle.epoch_tree.proofs.TableFacts.{pair_differs, none_listed}
 use Rattle.epochs.specs.Pairs.{group_of, Under}
-use Rattle.epochs.proofs.EntryNumbers.{equal_or_not}
 
 in_order_lem : (t : List Entry) → is_table t ≡ leb 1 (length t) && leb (length t) max_entries && is_first (entry_at t 0) && keeps_from t 1 (drop 1 t)
 unfolding is_table
@@ -89,20 +86,14 @@ module _ (t : List Entry) (i : ℕ) (tops : List ℕ) (h : Under t i tops) where
         there = get_or-set_same tops g s 0 l
 
         before : (j : ℕ) → j < i → Holds t (set tops g s) j
-        before j q = elim (equal_or_not (group_of (entry_at t j).node) g) [
-          | inl e ↦
+        before j q = elim (ℕ_discrete (group_of (entry_at t j).node) g) [
+          | yes e ↦
               let u = h j q in
               let v = ap (λ (n : ℕ). get_or (set tops g s) n 0) e ∙ there in
               let w = ap (λ (n : ℕ). get_or tops n 0) e in
               omega arith
-          | inr e ↦
+          | no e ↦
               let u = h j q in
               let v = get_or-set_other tops g (group_of (entry_at t j).node) s 0 (λ z. e (omega arith)) in
               omega arith
         ]
-
-pub greatest_turn : (t : List Entry) (k : ℕ) → 1 ≤ k → greater t (greatest_to t (k - 1)) k ≡ greatest_to t (k + 1 - 1)
-greatest_turn t k h =
-    let p : k ≡ suc (k - 1) = omega arith in
-    let q : suc (k - 1) ≡ k + 1 - 1 = omega arith in
-    ap (greater t (greatest_to t (k - 1))) p ∙ ap (greatest_to t) q

@@ -1,10 +1,12 @@
 -- A pass along the slots of a page that tells layout and order at once: what is told of the slots that are left (`told`), from slot to slot
 -- (`told_turn`), and that it is the layout and the order of all (`told_all`). Assumes nothing.
 use mathlib.Core.Path.{◌≡◌, refl, ◌∙◌, sym, ap}
-use mathlib.Core.List.{List, [], ◌∷◌, map}
+use mathlib.Core.List.{List, [], ◌∷◌, ◌++◌, map}
 use mathlib.Core.Bool.{Bool, true, false, ◌&&◌, and-true, and-false}
-use Prim.Native.Nat.{ℕ, ◌+◌, ◌-◌, ◌<◌, ◌≤◌}
-use lib.ListN.{length, drop}
+use Prim.Native.Nat.{ℕ, ◌<◌, ◌≤◌}
+use native.Mathlib.Omega.{arith}
+use lib.ListN.{length, take, drop, length-append}
+use lib.Seq.{take_at, drop_at}
 use Rattle.names.specs.Ordering.{Row, compare_rows, rising}
 use Rattle.std.specs.Ordering.{is_lt}
 use Rattle.names.specs.Names.{is_name}
@@ -16,7 +18,8 @@ use Rattle.slots.specs.Slots.{size_over, name_over, slot_over, keeps_over}
 use Rattle.slots.specs.Looks.{seen, seen_after}
 use Rattle.slots.proofs.LookedAt.{tells_falling, tells_rising, keeps_name}
 use Rattle.pages.specs.Pages.{name_in, parts_over, names_over}
-use Rattle.pages.proofs.SlotBySlot.{lent_over, first_part, no_part, rising_cons, rising_one, rising_none}
+use Rattle.numbers.proofs.Parts.{parts_first, parts_none}
+use Rattle.pages.proofs.SlotBySlot.{rising_cons, rising_one, rising_none}
 
 -- the names of slots
 abbrev names : ℕ → List Bytes → List Row
@@ -76,31 +79,37 @@ told_all room (s ∷ l) =
 pub told_first : (room : ℕ) (s : Bytes) → told room true [] (parts_over room s) ≡ seen (list_all (keeps_over room) (parts_over room s)) (rising (names_over room s))
 told_first room s = told_all room (parts_over room s)
 
-module _ (room : ℕ) (s : Bytes) (at : ℕ) (b : Bool) (a : Row) where
-  -- the first of the slots from `at` on
-  module _ (h : size_over room ≤ length s - at) where
-    abbrev first : Bytes
-    first = lent_over room s at
-
+module _ (room : ℕ) (b : Bool) (a : Row) (s : Bytes) where
+  -- the first of the slots s, and what comes after it
+  module _ (slot after : Bytes) (e : s ≡ slot ++ after) (l : length slot ≡ size_over room) where
     abbrev rest : List Bytes
-    rest = parts_over room (drop (at + size_over room) s)
+    rest = parts_over room after
+
+    pub long : size_over room ≤ length s
+    long = omega (arith, ap length e ∙ length-append slot after)
+
+    first_is : parts_over room s ≡ slot ∷ rest
+    first_is =
+        parts_first (size_over room) s (omega arith) long
+        ∙ (λ i. take (size_over room) (e i) ∷ parts_over room (drop (size_over room) (e i)))
+        ∙ (λ i. take_at slot after (size_over room) l i ∷ parts_over room (drop_at slot after (size_over room) l i))
 
     -- a look at it tells o
-    pub told_turn : {o : Seen} → o ≡ seen_after room a first → step o (told room b (name_over room first) rest) (told room false (name_over room first) rest) ≡ told room b a (parts_over room (drop at s))
-    told_turn e = (λ i. step (e i) (told room b (name_over room first) rest) (told room false (name_over room first) rest)) ∙ sym (ap (told room b a) (first_part room s at h))
+    pub told_turn : {o : Seen} → o ≡ seen_after room a slot → step o (told room b (name_over room slot) rest) (told room false (name_over room slot) rest) ≡ told room b a (parts_over room s)
+    told_turn f = (λ i. step (f i) (told room b (name_over room slot) rest) (told room false (name_over room slot) rest)) ∙ sym (ap (told room b a) first_is)
 
     -- it keeps its layout, and the pass goes on with c for b
     abbrev pub GoesOn : Bool → Type 0
-    GoesOn c = (keeps_over room first ≡ true) × (told room c (name_over room first) rest ≡ told room b a (parts_over room (drop at s)))
+    GoesOn c = (keeps_over room slot ≡ true) × (told room c (name_over room slot) rest ≡ told room b a (parts_over room s))
 
     abbrev above : Bool
-    above = is_lt (compare_rows a (name_over room first))
+    above = is_lt (compare_rows a (name_over room slot))
 
-    pub falls : (c : Bool) → NotRising ≡ seen_after room a first → c ≡ false → GoesOn c
-    falls c e f = ((tells_falling (keeps_over room first) above e).0, ap (λ (d : Bool). told room d (name_over room first) rest) f ∙ told_turn e)
+    pub falls : (c : Bool) → NotRising ≡ seen_after room a slot → c ≡ false → GoesOn c
+    falls c f g = ((tells_falling (keeps_over room slot) above f).0, ap (λ (d : Bool). told room d (name_over room slot) rest) g ∙ told_turn f)
 
-    pub climbs : (c : Bool) → Rising ≡ seen_after room a first → c ≡ b → GoesOn c
-    climbs c e f = ((tells_rising (keeps_over room first) above e).0, ap (λ (d : Bool). told room d (name_over room first) rest) f ∙ told_turn e)
+    pub climbs : (c : Bool) → Rising ≡ seen_after room a slot → c ≡ b → GoesOn c
+    climbs c f g = ((tells_rising (keeps_over room slot) above f).0, ap (λ (d : Bool). told room d (name_over room slot) rest) g ∙ told_turn f)
 
-  pub told_last : length s - at < size_over room → seen true b ≡ told room b a (parts_over room (drop at s))
-  told_last h = sym (ap (told room b a) (no_part room s at h))
+  pub told_last : length s < size_over room → seen true b ≡ told room b a (parts_over room s)
+  told_last h = sym (ap (told room b a) (parts_none (size_over room) s h))

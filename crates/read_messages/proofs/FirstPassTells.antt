@@ -13,14 +13,15 @@ use Rattle.names.specs.Ordering.{rising}
 use Rattle.numbers.proofs.Bools.{and_1}
 use Rattle.numbers.specs.Bytes.{Bytes}
 use Rattle.std.specs.List.{list_all}
-use Rattle.answers.specs.Answers.{ask}
+use Rattle.std.specs.Prelude.{None}
+use Rattle.std.specs.Bool.{then_some}
 use Rattle.fields.specs.Fields.{stands}
 use Rattle.fields.proofs.FieldInverse.{standing}
 use Rattle.name_fields.specs.NameFields.{name_fits}
 use Rattle.messages.specs.Messages.{kind_tag, epoch_tag, author_tag, kind_size, pair_size, is_kind, is_epoch, is_author, is_line, most_names, is_message, epoch_place, author_place, names_place, names_within, after_names, kind_in, names_in, rest_in, numbers_in, ends_as, framed, keeps_message}
 use Rattle.messages.proofs.NameFields.{names_few}
 use Rattle.messages.proofs.TestsPassed.{ok_numbers, and_left}
-use Rattle.read_messages.specs.FirstPass.{numbers_stand, good_names, untold, all_told, telling}
+use Rattle.read_messages.specs.FirstPass.{numbers_stand, good_names, telling}
 
 pub numbers_long : (s : Bytes) (p : ℕ) → numbers_stand (drop p s) ≡ true → p + names_place ≤ length s
 numbers_long s p e =
@@ -65,12 +66,12 @@ keeps_by s =
 -- what is told, by the answers to the tests
 pub telling_by : (s : Bytes) (h g w e o : Bool)
     → numbers_stand s ≡ h → good_names (names_in s) ≡ g → leb 1 (length (names_in s)) ≡ w → ends_as (kind_in s) (rest_in s) ≡ e → ok_numbers (numbers_in s) ≡ o
-    → telling s ≡ ask (h && g && w && e && o) untold (all_told (numbers_in s) (length (names_in s)))
+    → telling s ≡ then_some (h && g && w && e && o) (record { names = length (names_in s); numbers = numbers_in s })
 unfolding telling
 telling_by s h g w e o p q r t u =
-    ap (λ (b : Bool). ask b untold (all_told (numbers_in s) (length (names_in s)))) (keeps_by s ∙ (λ i. p i && q i && r i && t i && u i))
+    ap (λ (b : Bool). then_some b (record { names = length (names_in s); numbers = numbers_in s })) (keeps_by s ∙ (λ i. p i && q i && r i && t i && u i))
 
 -- no bytes are no message
-pub told_nothing : telling [] ≡ untold
+pub told_nothing : telling [] ≡ None
 unfolding telling keeps_message framed
 told_nothing = refl

@@ -3,7 +3,7 @@
 
 #![tactic(auto)]
 
-ghost use Rattle.std.specs.Prelude.{◌≡◌, true, cond, ◌&&◌, ◌+◌, ◌*◌, ◌≤◌, eqb, length, drop};
+ghost use Rattle.std.specs.Prelude.{◌≡◌, true, cond, ◌&&◌, ◌+◌, ◌*◌, ◌≤◌, eqb, length, drop, is_some, IfSome, IfOk, IfErr};
 ghost use mathlib.Core.List.{map, flatten};
 ghost use Rattle.names.specs.Ordering.{compare_rows};
 ghost use Rattle.std.specs.Ordering.{is_lt};
@@ -13,21 +13,20 @@ ghost use Rattle.std.specs.List.{list_all};
 ghost use Rattle.slots.specs.Tuples.{row_at, Within};
 ghost use Rattle.slots.specs.Slots.{slot_size, slot_bytes};
 ghost use Rattle.slots.specs.Looks.{leads};
-ghost use Rattle.answers.specs.Answers.{ask, leaves};
+ghost use Rattle.answers.specs.Answers.{leaves};
 ghost use Rattle.pages.specs.Pages.{pieces};
 ghost use Rattle.fields.specs.Fields.{field_head};
 ghost use Rattle.name_fields.specs.NameFields.{name_fits, tuples_in};
 ghost use Rattle.messages.specs.Messages.{insert, pair_size, is_kind, is_epoch, is_author, is_line, name_stands, names_within, after_names, epoch_place, names_place, pair_in, kind_in, rest_in, numbers_in, ends_as};
-ghost use Rattle.messages.specs.Calls.{bare, read_outcome, zeros as no_numbers, numbers_read};
-ghost use Rattle.read_messages.specs.FirstPass.{numbers_stand, good_names, all_told, untold as nothing_told, telling};
+ghost use Rattle.messages.specs.Calls.{bare, read_outcome, numbers_read};
+ghost use Rattle.read_messages.specs.FirstPass.{numbers_stand, good_names, telling};
 
-use answers::{Answer, Refusal};
+use answers::Refusal;
 use fields::{Cursor, FIELD};
 use messages::{
     AUTHOR, AUTHOR_TAG, EPOCH, EPOCH_TAG, INSERT, KIND, KIND_TAG, LINE, LINE_TAG, NAME_TAG, NAMES,
     Numbers, PAIR, SEQUENCE,
 };
-use name_fields::NameField;
 use names::{Author, LIMIT};
 use slots::{SLOT, Span, TUPLE};
 
@@ -48,10 +47,7 @@ fn name_follows(message: &[u8], last: Span, name: Span) -> bool
     requires { Within message.now last × (leads (row_at message.now last) ≡ true) × Within message.now name }
     ensures { result ≡ (name_fits (row_at message.now name) && is_lt (compare_rows (row_at message.now last) (row_at message.now name))) }
 {
-    if name.count < 1 {
-        return false;
-    }
-    if LIMIT < name.count {
+    if name.count < 1 || LIMIT < name.count {
         return false;
     }
     slots::follows(message, last.at, last.count, message, name.at, name.count)
@@ -77,8 +73,7 @@ fn kind_in(message: &[u8], cursor: Cursor) -> u8
     requires { cursor.at + epoch_place ≤ length message.now }
     ensures { result ≡ kind_in (drop cursor.at message.now) }
 {
-    let p = cursor.at + FIELD;
-    message[p]
+    message[cursor.at + FIELD]
 }
 
 // Node and sequence of the field at the cursor.
@@ -87,9 +82,10 @@ fn pair_in(message: &[u8], cursor: Cursor) -> Author
     ensures { result ≡ pair_in message.now cursor.at }
 {
     let p = cursor.at + FIELD;
-    let node = numbers::read_u16(message, p);
-    let sequence = numbers::read_u32(message, p + SEQUENCE);
-    Author { node, sequence }
+    Author {
+        node: numbers::read_u16(message, p),
+        sequence: numbers::read_u32(message, p + SEQUENCE),
+    }
 }
 
 // What follows the names: for insert "tag 5 (line number, 4 bytes)", and "nothing after".
@@ -100,11 +96,8 @@ fn ends(message: &[u8], cursor: Cursor, kind: u8) -> bool
     if kind != INSERT {
         return cursor.at == message.len();
     }
-    if !fields::field_stands(message, cursor, LINE_TAG, LINE) {
-        return false;
-    }
-    let end = fields::after_field(message, cursor);
-    end.at == message.len()
+    fields::field_stands(message, cursor, LINE_TAG, LINE)
+        && fields::after_field(message, cursor).at == message.len()
 }
 
 // "line number (0 unless insert)", of the field at the cursor.
@@ -113,9 +106,10 @@ fn line_in(message: &[u8], cursor: Cursor, kind: u8) -> u32
     ensures { result ≡ cond (eqb kind insert) (at32 (drop cursor.at message.now) field_head) 0 }
 {
     if kind == INSERT {
-        return numbers::read_u32(message, cursor.at + FIELD);
+        numbers::read_u32(message, cursor.at + FIELD)
+    } else {
+        0
     }
-    0
 }
 
 // All that the message from the cursor on says but the names, which end at `end`.
@@ -148,142 +142,70 @@ fn numbers_in(message: &[u8], cursor: Cursor, end: Cursor) -> Numbers
 
 // ── the first pass ──
 
-// Whether the names passed are names and rise, how many they are, and the place after their fields.
-#[derive(Clone, Copy)]
-struct Passed {
-    good: bool,
-    names: usize,
-    at: usize,
+// What a message says but for the names: how many they are, and its numbers.
+#[derive(Clone, Copy, Debug, PartialEq, Eq)]
+pub struct Reading {
+    pub names: usize,
+    pub numbers: Numbers,
 }
 
-// The names whose fields stand one after the other from the cursor on, at most so many. Kept of the last is where it stands; at first that
-// is the row of no tuples, which is below every name.
-fn pass_names(message: &[u8], cursor: Cursor, most: usize) -> Passed
+// How many names were passed, and the place after their fields.
+#[derive(Clone, Copy, Debug, PartialEq, Eq)]
+struct Passed {
+    names: usize,
+    end: Cursor,
+}
+
+// The names whose fields stand one after the other from the cursor on, at most so many; None where they are no names or don't rise. Kept
+// of the last is where it stands; at first that is the row of no tuples, which is below every name.
+fn pass_names(message: &[u8], cursor: Cursor, most: usize) -> Option<Passed>
     requires { cursor.at ≤ length message.now }
-    ensures good_value { result.good ≡ good_names (names_within most (drop cursor.at message.now)) }
-    ensures names_value { result.good ≡ true → (result.names ≡ length (names_within most (drop cursor.at message.now))) × (drop result.at message.now ≡ after_names most (drop cursor.at message.now)) × (result.at ≤ length message.now) }
+    ensures good { is_some result ≡ good_names (names_within most (drop cursor.at message.now)) }
+    ensures count { IfSome result (λ p. p.names ≡ length (names_within most (drop cursor.at message.now))) }
+    ensures rest { IfSome result (λ p. (drop p.end.at message.now ≡ after_names most (drop cursor.at message.now)) × (p.end.at ≤ length message.now)) }
 {
     let mut last = Span {
         at: cursor.at,
         count: 0,
     };
-    let mut names: usize = 0;
-    let mut at = cursor.at;
-    loop {
-        if most <= names {
-            break Passed {
-                good: true,
-                names,
-                at,
-            };
-        }
-        let count = match name_fields::name_field(message, Cursor { at }, NAME_TAG) {
-            NameField::Tuples(n) => n,
-            NameField::Nothing => break Passed {
-                good: true,
-                names,
-                at,
-            },
+    let mut end = cursor;
+    for names in 0..most {
+        let Some(count) = name_fields::name_field(message, end, NAME_TAG) else {
+            return Some(Passed { names, end });
         };
         let name = Span {
-            at: at + FIELD,
+            at: end.at + FIELD,
             count,
         };
         if !name_follows(message, last, name) {
-            break Passed {
-                good: false,
-                names,
-                at,
-            };
+            return None;
         }
         last = name;
-        at = name.at + TUPLE * count;
-        names += 1;
+        end = Cursor {
+            at: name.at + TUPLE * count,
+        };
     }
+    Some(Passed { names: most, end })
 }
 
-fn zeros() -> Numbers
-    ensures { result ≡ no_numbers }
-{
-    let none = Author {
-        node: 0,
-        sequence: 0,
-    };
-    Numbers {
-        kind: 0,
-        epoch: none,
-        author: none,
-        line: 0,
-    }
-}
-
-// What the first pass has found: whether the bytes are a message, its numbers, and how many names it has. Of what is no message, zeros.
-#[derive(Clone, Copy)]
-struct Told {
-    ok: bool,
-    numbers: Numbers,
-    names: usize,
-}
-
-fn untold() -> Told
-    ensures { result ≡ nothing_told }
-{
-    let numbers = zeros();
-    Told {
-        ok: false,
-        numbers,
-        names: 0,
-    }
-}
-
-// The numbers and so many names, where the numbers may be said.
-fn tell_numbers(numbers: Numbers, names: usize) -> Told
-    ensures { result ≡ ask (is_kind numbers.kind && is_epoch numbers.epoch && is_author numbers.author && is_line numbers.kind numbers.line) nothing_told (all_told numbers names) }
-{
-    if !messages::numbers_ok(numbers) {
-        return untold();
-    }
-    Told {
-        ok: true,
-        numbers,
-        names,
-    }
-}
-
-// One pass over the message from the cursor on.
-fn tell(message: &[u8], cursor: Cursor) -> Told
+// One pass over the message from the cursor on; None where there is no message.
+fn tell(message: &[u8], cursor: Cursor) -> Option<Reading>
     requires { cursor.at ≤ length message.now }
     ensures { result ≡ telling (drop cursor.at message.now) }
 {
     if !numbers_stand(message, cursor) {
-        return untold();
+        return None;
     }
     let kind = kind_in(message, cursor);
     let first = Cursor {
         at: cursor.at + NAMES,
     };
-    let passed = pass_names(message, first, messages::most_names(kind));
-    if !passed.good {
-        return untold();
+    let Passed { names, end } = pass_names(message, first, messages::most_names(kind))?;
+    if names == 0 || !ends(message, end, kind) {
+        return None;
     }
-    if passed.names < 1 {
-        return untold();
-    }
-    let end = Cursor { at: passed.at };
-    if !ends(message, end, kind) {
-        return untold();
-    }
-    tell_numbers(numbers_in(message, cursor, end), passed.names)
-}
-
-// The same from any place; beyond the end there is no message.
-fn tell_from(message: &[u8], cursor: Cursor) -> Told
-    ensures { result ≡ telling (drop cursor.at message.now) }
-{
-    if message.len() < cursor.at {
-        return untold();
-    }
-    tell(message, cursor)
+    let numbers = numbers_in(message, cursor, end);
+    messages::numbers_ok(numbers).then_some(Reading { names, numbers })
 }
 
 // ── the reader ──
@@ -295,28 +217,26 @@ struct Reader<'a> {
     cursor: Cursor,
 }
 
-// A reader at the beginning of a message.
-fn reader_of<'a>(message: &'a [u8]) -> Reader<'a>
-    ensures { (result.message ≡ message.entry) × (result.cursor.at ≡ 0) }
-{
-    Reader {
-        message,
-        cursor: Cursor { at: 0 },
+impl<'a> Reader<'a> {
+    // A reader at the beginning of a message.
+    fn of(message: &'a [u8]) -> Reader<'a>
+        ensures { (result.message ≡ message.entry) × (result.cursor.at ≡ 0) }
+    {
+        Reader {
+            message,
+            cursor: Cursor { at: 0 },
+        }
     }
-}
 
-// What a message says that stands at the reader's place.
-fn told_here<'a>(r: Reader<'a>) -> Told
-    ensures { result ≡ telling (drop r.entry.cursor.at r.entry.message.now) }
-{
-    tell_from(r.message, r.cursor)
-}
-
-// What a message says, by a reader.
-fn told_of(message: &[u8]) -> Told
-    ensures { result ≡ telling message.now }
-{
-    told_here(reader_of(message))
+    // What a message says that stands at the reader's place; beyond the end there is none.
+    fn tell(self) -> Option<Reading>
+        ensures { result ≡ telling (drop self.entry.cursor.at self.entry.message.now) }
+    {
+        if self.message.len() < self.cursor.at {
+            return None;
+        }
+        tell(self.message, self.cursor)
+    }
 }
 
 // ── the second pass ──
@@ -334,14 +254,10 @@ fn write_each(message: &[u8], cursor: Cursor, n: usize, out: &mut [u8])
     requires { (length (names_within n (drop cursor.at message.now)) ≡ n) × (list_all name_fits (names_within n (drop cursor.at message.now)) ≡ true) × (slot_size * n ≤ length out.old) }
     ensures { out.new ≡ put out.old 0 (flatten (pieces (map bare (names_within n (drop cursor.at message.now))))) }
 {
-    let mut i: usize = 0;
-    let mut at = cursor.at;
-    while i < n {
-        let here = Cursor { at };
+    let mut here = cursor;
+    for i in 0..n {
         write_slot(message, here, i, out);
-        let next = fields::after_field(message, here);
-        at = next.at;
-        i += 1;
+        here = fields::after_field(message, here);
     }
 }
 
@@ -357,40 +273,20 @@ fn write_slots(message: &[u8], cursor: Cursor, n: usize, out: &mut [u8])
     }
 }
 
-// What a message says but for the names, which are in the output.
-#[derive(Clone, Copy)]
-pub struct Reading {
-    pub answer: Answer,
-    pub numbers: Numbers,
-}
-
-// "a refused read gives kind, epoch, author and line number as zeros"
-fn unread(refusal: Refusal) -> Reading
-    ensures { (result.answer ≡ Answer.Err refusal) × (result.numbers ≡ no_numbers) }
-{
-    let numbers = zeros();
-    Reading {
-        answer: Err(refusal),
-        numbers,
-    }
-}
-
-// 15, 8; else the numbers, and the names in slots with line number 0. One pass over the bytes, and a second that writes.
-pub fn read(message: &[u8], out: &mut [u8]) -> Reading
-    ensures answer_value { (result.answer ≡ (read_outcome message.now (length out.old)).answer) × (result.numbers ≡ numbers_read message.now (length out.old)) }
+// 15, 8; else the numbers and how many names there are, and the names in slots with line number 0. One pass over the bytes, and a second
+// that writes.
+pub fn read(message: &[u8], out: &mut [u8]) -> Result<Reading, Refusal>
+    ensures count { IfOk result (λ r. (read_outcome message.now (length out.old)).answer ≡ Ok r.names) }
+    ensures numbers { IfOk result (λ r. r.numbers ≡ numbers_read message.now (length out.old)) }
+    ensures refusal { IfErr result (λ r. (read_outcome message.now (length out.old)).answer ≡ Err r) }
     ensures out_after { out.new ≡ leaves (read_outcome message.now (length out.old)) out.old }
 {
-    let told = told_of(message);
-    if !told.ok {
-        return unread(Refusal::Malformed);
-    }
+    let Some(told) = Reader::of(message).tell() else {
+        return Err(Refusal::Malformed);
+    };
     if out.len() / SLOT < told.names {
-        return unread(Refusal::Short);
+        return Err(Refusal::Short);
     }
     write_slots(message, Cursor { at: NAMES }, told.names, out);
-    let numbers = told.numbers;
-    Reading {
-        answer: Ok(told.names),
-        numbers,
-    }
+    Ok(told)
 }

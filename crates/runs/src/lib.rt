@@ -13,12 +13,11 @@ ghost use Rattle.slots.specs.Slots.{slot_size, slot_bytes};
 ghost use Rattle.runs.specs.Runs.{onward};
 ghost use Rattle.runs.specs.Beside.{decided, compare_fronts, by_offsets, beside_of, same_but_last};
 
-use names::LIMIT;
-use slots::{HEAD, Span, TUPLE};
+use slots::{HEAD, OFFSET, SEQUENCE, Span, TUPLE, WORDS};
 use std::cmp::Ordering;
 
 // Where a name stands beside a run.
-#[derive(Clone, Copy)]
+#[derive(Clone, Copy, Debug, PartialEq, Eq)]
 pub enum Stand {
     // Below all of its names.
     Below,
@@ -32,16 +31,8 @@ pub enum Stand {
     Above,
 }
 
-// Where sequence and offset stand in a tuple.
-const SEQUENCE: usize = 4;
-
-const OFFSET: usize = 8;
-
 // The offset's own bytes, at the end of a tuple.
 pub const OFFSET_SIZE: usize = 4;
-
-// The words of four bytes of as many tuples as a name can have.
-const WORDS: usize = TUPLE * LIMIT / 4;
 
 // By two offsets of tuples that are equal otherwise, the first that of a run's first name; `ends` is whether the second is a name's last.
 fn beside_offsets(x: i32, y: i32, ends: bool) -> Stand
@@ -49,18 +40,14 @@ fn beside_offsets(x: i32, y: i32, ends: bool) -> Stand
     ensures { result ≡ by_offsets x y ends }
 {
     if y < x {
-        if ends {
-            if y + 1 == x {
-                return Stand::Before;
-            }
-        }
-        return Stand::Below;
+        return if ends && y + 1 == x {
+            Stand::Before
+        } else {
+            Stand::Below
+        };
     }
     let i = (y - x) as usize;
-    if ends {
-        return Stand::At(i);
-    }
-    Stand::Beyond(i)
+    if ends { Stand::At(i) } else { Stand::Beyond(i) }
 }
 
 // By the tuples at p and q, the first that of a run's first name, its last; all before them are equal.
@@ -77,10 +64,7 @@ fn beside_tuples(a: &[u8], p: usize, b: &[u8], q: usize, ends: bool) -> Stand
             ends,
         );
     }
-    if x < y {
-        return Stand::Above;
-    }
-    Stand::Below
+    if x < y { Stand::Above } else { Stand::Below }
 }
 
 // Where the name at y stands beside the run whose first name stands at x: "Names compare at the first tuple that differs", up to the last of
@@ -93,8 +77,7 @@ pub fn beside(a: &[u8], x: Span, b: &[u8], y: Span) -> Stand
     if y.count <= last {
         return match slots::compare_rows(a, x.at, last, b, y.at, y.count) {
             Ordering::Less => Stand::Above,
-            Ordering::Equal => Stand::Below,
-            Ordering::Greater => Stand::Below,
+            Ordering::Equal | Ordering::Greater => Stand::Below,
         };
     }
     match slots::compare_rows(a, x.at, last, b, y.at, last) {
@@ -116,10 +99,8 @@ pub fn same_but_last(a: &[u8], p: usize, b: &[u8], q: usize, n: usize) -> bool
     ensures { result ≡ same_but_last (tuples_at a.now p n) (tuples_at b.now q n) }
 {
     let before = n - 1;
-    if numbers::read_u64(a, p + TUPLE * before) != numbers::read_u64(b, q + TUPLE * before) {
-        return false;
-    }
-    slots::compare_rows(a, p, before, b, q, before).is_eq()
+    numbers::read_u64(a, p + TUPLE * before) == numbers::read_u64(b, q + TUPLE * before)
+        && slots::compare_rows(a, p, before, b, q, before).is_eq()
 }
 
 // Of two names of n tuples the one at q comes k after the one at p. What differs most often is asked first.
@@ -129,10 +110,8 @@ pub fn is_onward(a: &[u8], p: usize, b: &[u8], q: usize, n: usize, k: u32) -> bo
     ensures { result ≡ is_eq (compare_rows (onward k (tuples_at a.now p n)) (tuples_at b.now q n)) }
 {
     let last = TUPLE * n - OFFSET_SIZE;
-    if numbers::read_u32(b, q + last) != numbers::read_u32(a, p + last) + k {
-        return false;
-    }
-    same_but_last(a, p, b, q, n)
+    numbers::read_u32(b, q + last) == numbers::read_u32(a, p + last) + k
+        && same_but_last(a, p, b, q, n)
 }
 
 // The tuples of the name that comes k after the one at x, one after the other from p on: copied as bytes, and the last offset over them.
@@ -146,7 +125,8 @@ pub fn copy_onward(out: &mut [u8], p: usize, s: &[u8], x: Span, k: u32)
     numbers::write_u32(out, p + size - OFFSET_SIZE, offset + k);
 }
 
-// The bytes of the tuple that stands at `at` in s, written at p in out: everything is read before anything is written.
+// The bytes of the tuple that stands at `at` in s, written at p in out: everything is read before anything is written. This is slots' `copy_one`
+// again, apart from it so that it has one caller and becomes part of the loop.
 fn copy_tuple(out: &mut [u8], p: usize, s: &[u8], at: usize)
     requires { (p + tuple_size ≤ length out.old) × (at + tuple_size ≤ length s.now) }
     ensures { out.new ≡ put out.old p (take tuple_size (drop at s.now)) }
@@ -165,11 +145,8 @@ fn copy_tuples(out: &mut [u8], p: usize, s: &[u8], at: usize, n: usize)
     requires { (n ≤ limit) × (p + tuple_size * n ≤ length out.old) × (at + tuple_size * n ≤ length s.now) }
     ensures { out.new ≡ put out.old p (row_bytes (tuples_at s.now at n)) }
 {
-    let size = TUPLE * n;
-    let mut i: usize = 0;
-    while i < size {
-        copy_tuple(out, p + i, s, at + i);
-        i += TUPLE;
+    for k in 0..n {
+        copy_tuple(out, p + TUPLE * k, s, at + TUPLE * k);
     }
 }
 

@@ -2,17 +2,17 @@
 -- (`held_at`, `front_at`) and by value (`held_by`). What is left of a comparison of two rows in bytes (`left_all`, `left_same`, `left_less`,
 -- `left_more`, `left_at`, `left_not`, `left_differ`), after equal tuples (`alike_compare`, `left_alike`), and of one with a tuple
 -- (`first_tuple`). Assumes nothing.
-use Rattle.std.proofs.Common.{◌≡◌, ℕ, ◌+◌, ◌-◌, ◌*◌, ◌%◌, ◌<◌, ◌≤◌, true, false, [], ◌∷◌, ◌++◌, length, get_or, drop, sym, refl, ap, ◌∙◌, arith, take_all}
+use Rattle.std.proofs.Common.{◌≡◌, ℕ, ◌+◌, ◌-◌, ◌*◌, ◌%◌, ◌<◌, ◌≤◌, min, true, false, [], ◌∷◌, ◌++◌, length, get_or, drop, sym, refl, ap, ◌∙◌, inl, inr, arith, take_all}
 use native.Mathlib.Decide.{dec_le, dec_lt}
 use Rattle.names.specs.declared.Tuple.{Tuple}
 use Rattle.std.specs.declared.cmp.Ordering.{Ordering}
 use Rattle.std.specs.declared.cmp.Ordering.TheVariants.{Less, Equal, Greater}
 use Rattle.names.specs.Ordering.{Row, compare_ℕ, compare_ℤ, compare_tuples, compare_rows}
-use Rattle.std.specs.Ordering.{ordering_then, is_lt, is_eq}
+use Rattle.std.specs.Ordering.{ordering_then, is_lt, is_eq, is_ne}
 use Rattle.names.specs.Names.{m}
-use Rattle.names.proofs.Laws.{ℕ_less, ℕ_more, tuple_same, same_tuple}
+use Rattle.names.proofs.Laws.{ℕ_less, ℕ_same, ℕ_more, ℕ_cases, tuple_same, same_tuple}
 use Rattle.names.proofs.Digits.{compare_by, digits}
-use Rattle.names.proofs.CompareTuples.{left, left_same as both_ended, left_less as first_ended, left_more as second_ended, left_at as turn, to_one}
+use Rattle.names.proofs.CompareTuples.{left, left_same as both_ended, left_less as first_ended, left_more as second_ended, left_at as turn, to_one, after_same, after_more}
 use Rattle.numbers.specs.Bytes.{Bytes, Octets, at32, at64, signed, unsigned}
 use Rattle.numbers.proofs.ReadNumbers.{fits16, fits32, signed_pos, signed_neg}
 use Rattle.numbers.proofs.TwosComplement.{Word, signed_unsigned, unsigned_fits}
@@ -105,11 +105,21 @@ front_at s p = refl
 abbrev pub left_from : Bytes → ℕ → ℕ → Bytes → ℕ → ℕ → ℕ → Ordering
 left_from a p n b q k i = left (tuples_at a p n) (tuples_at b q k) n k i
 
--- a comparison that is not Same decides
+-- a comparison that is not Equal decides
 decides : (o r : Ordering) → is_eq o ≡ false → is_lt o ≡ is_lt (ordering_then o r)
 decides Less r e = refl
 decides Equal r e = absurd (let z : ◌≡◌ {A = ℕ} 0 1 = cc in omega arith)
 decides Greater r e = refl
+
+pub differs : (o r : Ordering) → is_ne o ≡ true → o ≡ ordering_then o r
+differs Less r e = refl
+differs Equal r e = absurd (let z : ◌≡◌ {A = ℕ} 0 1 = cc in omega arith)
+differs Greater r e = refl
+
+pub agrees : (o r : Ordering) → is_ne o ≡ false → r ≡ ordering_then o r
+agrees Less r e = absurd (let z : ◌≡◌ {A = ℕ} 0 1 = cc in omega arith)
+agrees Equal r e = refl
+agrees Greater r e = absurd (let z : ◌≡◌ {A = ℕ} 0 1 = cc in omega arith)
 
 module _ (a : Bytes) (p n : ℕ) (b : Bytes) (q k : ℕ) where
   long : n ≤ length (tuples_at a p n)
@@ -140,6 +150,16 @@ module _ (a : Bytes) (p n : ℕ) (b : Bytes) (q k : ℕ) where
       let s : compare_tuples (tuple_at a (p + tuple_size * i)) (tuple_at b (q + tuple_size * i)) ≡ compare_tuples (get_or (tuples_at a p n) i m) (get_or (tuples_at b q k) i m) =
       λ j. compare_tuples (sym (get_or_tuples_at a p n i h) j) (sym (get_or_tuples_at b q k i g) j) in
       turn (tuples_at a p n) (tuples_at b q k) n k i m long long' (sym f ∙ e ∙ s) h g
+
+  -- at the end of the shorter, their lengths decide
+  pub left_end : (i : ℕ) → i ≡ min n k → compare_ℕ n k ≡ left_from a p n b q k i
+  left_end i e = elim (ℕ_cases n k) [
+    | inl h ↦ ℕ_less n k h ∙ left_less i (omega arith) (omega arith)
+    | inr r ↦ elim r [
+      | inl h ↦ ℕ_same n k h ∙ left_same i (omega arith) (omega arith)
+      | inr h ↦ ℕ_more n k h ∙ left_more i (omega arith) (omega arith)
+    ]
+  ]
 
   -- the second has ended
   pub left_not : (i : ℕ) → k ≤ i → false ≡ is_lt (left_from a p n b q k i)
@@ -200,3 +220,10 @@ first_tuple a p n t h e f =
     let z : p + tuple_size * 0 ≡ p = omega arith in
     let g : get_or (tuples_at a p n) 0 m ≡ tuple_at a p = get_or_tuples_at a p n 0 h ∙ ap (tuple_at a) z in
     to_one (tuples_at a p n) t m (sym f ∙ e ∙ ap (λ (s : Tuple). compare_tuples s t) (sym g)) (omega (arith, length_tuples_at a p n))
+
+-- whether it has more tuples decides
+pub after_one : (a : Bytes) (p n : ℕ) → 1 ≤ n → compare_ℕ n 1 ≡ compare_rows (drop 1 (tuples_at a p n)) []
+after_one a p n h = elim (dec_lt n 2) [
+  | yes g ↦ ℕ_same n 1 (omega arith) ∙ after_same (tuples_at a p n) (omega (arith, length_tuples_at a p n))
+  | no g ↦ ℕ_more n 1 (omega arith) ∙ after_more (tuples_at a p n) (omega (arith, length_tuples_at a p n))
+]

@@ -1,5 +1,6 @@
 -- Zero bytes where a tuple, or the three bytes after the depth, would stand. Assumes nothing.
 use Rattle.std.proofs.Common.{◌≡◌, ℕ, ◌+◌, ◌-◌, ◌%◌, ◌<◌, ◌≤◌, Bool, true, false, ◌&&◌, eqb, length, get_or, take, drop, sym, refl, ap, ◌∙◌, arith, length-drop, take_all}
+use lib.Bits.{bit_or, or_add_and, and_le_l, and_le_r}
 use Rattle.numbers.specs.Bytes.{Bytes, Octets, at16, at32, at64, is_zero, all_zero}
 use Rattle.slots.specs.Tuples.{tuple_size}
 use Rattle.numbers.proofs.Bools.{and_1}
@@ -20,25 +21,33 @@ zero24 s k h =
     ∙ zero_by (at32 s 0 % 16777216) (get_or s 1 0) (at16 s 2)
     (λ e. omega (arith, k 1, k 2, k 3)) (λ e. omega (arith, k 1, k 2, k 3)) (λ e f. omega (arith, k 1, k 2, k 3))
 
-swap : (a b x y : Bool) → ((a && b) && x) && y ≡ (a && x) && (b && y)
+swap : (a b x y : Bool) → (a && b) && (x && y) ≡ (a && x) && (b && y)
 swap false b x y = refl
 swap true true x y = refl
 swap true false true y = refl
 swap true false false y = refl
 
+-- the bits of two numbers together: those that are in both are counted twice in the sum, and are no more than either
+pub bits_zero : (a b : ℕ) → eqb (bit_or a b) 0 ≡ eqb a 0 && eqb b 0
+bits_zero a b =
+    let sum = or_add_and a b in
+    let first = and_le_l a b in
+    let second = and_le_r a b in
+    sym (zero_by (bit_or a b) a b (λ e. omega arith) (λ e. omega arith) (λ e f. omega arith))
+
 -- n bytes from p on and the next
 zeros_next : (s : Bytes) (p n : ℕ) → p + n < length s → all_zero (take n (drop p s)) && eqb (get_or s (p + n) 0) 0 ≡ all_zero (take (n + 1) (drop p s))
 zeros_next s p n h = (λ i. all_zero (take n (drop p s)) && sym (zero8 s (p + n) h) i) ∙ sym (every_split is_zero s p n 1)
 
--- at a turn: the answer a for n bytes from p on and n from q on, and b with the next of the first
-pub zeros_both : {a b : Bool} (s : Bytes) (p q n : ℕ) → p + n < length s → q + n < length s →
-    a ≡ all_zero (take n (drop p s)) && all_zero (take n (drop q s)) → b ≡ a && eqb (get_or s (p + n) 0) 0 →
-    b && eqb (get_or s (q + n) 0) 0 ≡ all_zero (take (n + 1) (drop p s)) && all_zero (take (n + 1) (drop q s))
-zeros_both s p q n h g e f =
-    let x = eqb (get_or s (p + n) 0) 0 in
-    let y = eqb (get_or s (q + n) 0) 0 in
-    ap (λ (c : Bool). c && y) (f ∙ ap (λ (c : Bool). c && x) e)
-    ∙ swap (all_zero (take n (drop p s))) (all_zero (take n (drop q s))) x y
+-- at a turn: the bits of n bytes from p on and n from q on, and of the next of each
+pub zeros_both : (s : Bytes) (p q n all : ℕ) → p + n < length s → q + n < length s → eqb all 0 ≡ all_zero (take n (drop p s)) && all_zero (take n (drop q s)) →
+    eqb (bit_or all (bit_or (get_or s (p + n) 0) (get_or s (q + n) 0))) 0 ≡ all_zero (take (n + 1) (drop p s)) && all_zero (take (n + 1) (drop q s))
+zeros_both s p q n all h g e =
+    let x = get_or s (p + n) 0 in
+    let y = get_or s (q + n) 0 in
+    bits_zero all (bit_or x y)
+    ∙ (λ i. e i && bits_zero x y i)
+    ∙ swap (all_zero (take n (drop p s))) (all_zero (take n (drop q s))) (eqb x 0) (eqb y 0)
     ∙ (λ i. zeros_next s p n h i && zeros_next s q n g i)
 
 -- the first n bytes from p on, and the last n of all, which begin at q, with the answers a and b

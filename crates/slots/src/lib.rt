@@ -23,14 +23,14 @@ pub const HEAD: usize = 8;
 pub const SLOT: usize = HEAD + TUPLE * LIMIT;
 
 // Where a name stands in some bytes: `count` tuples from `at` on. A name that is missing has none.
-#[derive(Clone, Copy)]
+#[derive(Clone, Copy, Debug, PartialEq, Eq)]
 pub struct Span {
     pub at: usize,
     pub count: usize,
 }
 
 // What one look at slots tells: that one breaks its layout; else whether the names rise.
-#[derive(Clone, Copy)]
+#[derive(Clone, Copy, Debug, PartialEq, Eq)]
 pub enum Seen {
     Broken,
     NotRising,
@@ -44,16 +44,16 @@ const FEW: usize = 4;
 const MANY: usize = 8;
 
 // The words of four bytes of as many tuples as a name can have.
-const WORDS: usize = TUPLE * LIMIT / 4;
+pub const WORDS: usize = TUPLE * LIMIT / 4;
 
 // Where the line number stands in a slot, and node, sequence and offset in a tuple, after its position.
 const LINE: usize = 4;
 
 const NODE: usize = 2;
 
-const SEQUENCE: usize = 4;
+pub const SEQUENCE: usize = 4;
 
-const OFFSET: usize = 8;
+pub const OFFSET: usize = 8;
 
 // Numbers of two bytes are below the first, and numbers of three below the second.
 const TWO_BYTES: u32 = 65536;
@@ -69,7 +69,7 @@ const HIGH_FRONT: u64 = 18446744073709551615;
 const HIGH_OFFSET: u32 = 2147483647;
 
 // Offsets whose bits are this or more are below 0.
-const NEGATIVE: u32 = 2147483648;
+pub const NEGATIVE: u32 = 2147483648;
 
 pub fn read_tuple(s: &[u8], p: usize) -> Tuple
     requires { p + tuple_size ≤ length s.now }
@@ -99,10 +99,8 @@ pub fn read_row(s: &[u8], p: usize, n: usize) -> Name
         offset: 0,
     };
     let mut tuples = [zero; LIMIT];
-    let mut k: usize = 0;
-    while k < n {
+    for k in 0..n {
         tuples[k] = read_tuple(s, p + TUPLE * k);
-        k += 1;
     }
     Name { depth: n, tuples }
 }
@@ -112,8 +110,7 @@ pub fn depth_over(s: &[u8], room: usize) -> usize
     requires { 0 < length s.now }
     ensures { result ≡ min (depth_of s.now) room }
 {
-    let d = s[0] as usize;
-    if d < room { d } else { room }
+    usize::from(s[0]).min(room)
 }
 
 // How many of a slot's tuples are the name's.
@@ -136,14 +133,14 @@ pub fn read_line(s: &[u8]) -> u32
 fn front(t: Tuple) -> u64
     ensures { result ≡ (t.position * 65536 + t.node) * 4294967296 + t.sequence }
 {
-    ((t.position as u64) * 65536 + (t.node as u64)) * 4294967296 + (t.sequence as u64)
+    (u64::from(t.position) * 65536 + u64::from(t.node)) * 4294967296 + u64::from(t.sequence)
 }
 
 // An offset's bits, raised by 2^31: offsets, "signed", compare as these numbers do.
 fn raised(o: u32) -> u32
     ensures { result ≡ (o + 2147483648) % 4294967296 }
 {
-    std::num::wrapping_add_u32(o, NEGATIVE)
+    o.wrapping_add(NEGATIVE)
 }
 
 // Two tuples, each by its first eight bytes and its offset raised. Equal ones are told first: the compiler compares the bytes as they
@@ -189,24 +186,13 @@ pub fn compare_rows(a: &[u8], p: usize, n: usize, b: &[u8], q: usize, m: usize) 
     requires { (p + tuple_size * n ≤ length a.now) × (q + tuple_size * m ≤ length b.now) }
     ensures { result ≡ compare_rows (tuples_at a.now p n) (tuples_at b.now q m) }
 {
-    let mut i: usize = 0;
-    loop {
-        if n <= i {
-            if m <= i {
-                break Ordering::Equal;
-            }
-            break Ordering::Less;
+    for i in 0..n.min(m) {
+        let order = compare_tuples(a, p + TUPLE * i, b, q + TUPLE * i);
+        if order.is_ne() {
+            return order;
         }
-        if m <= i {
-            break Ordering::Greater;
-        }
-        match compare_tuples(a, p + TUPLE * i, b, q + TUPLE * i) {
-            Ordering::Less => break Ordering::Less,
-            Ordering::Greater => break Ordering::Greater,
-            Ordering::Equal => {}
-        }
-        i += 1;
     }
+    n.cmp(&m)
 }
 
 // The tuples that stand at p and at q are equal. All is read before it is tested, and nothing swapped.
@@ -223,20 +209,13 @@ fn alike(a: &[u8], p: usize, n: usize, b: &[u8], q: usize, m: usize) -> usize
     ensures upper_bound { (result ≤ n) × (result ≤ m) × (tuples_at a.now p result ≡ tuples_at b.now q result) }
     ensures result_value { result < n → result < m → is_eq (compare_tuples (tuple_at a.now (p + tuple_size * result)) (tuple_at b.now (q + tuple_size * result))) ≡ false }
 {
-    let mut i: usize = 0;
-    loop {
-        if n <= i {
-            break i;
-        }
-        if m <= i {
-            break i;
-        }
-        if same_tuples(a, p + TUPLE * i, b, q + TUPLE * i) {
-            i += 1;
-        } else {
-            break i;
+    let most = n.min(m);
+    for i in 0..most {
+        if !same_tuples(a, p + TUPLE * i, b, q + TUPLE * i) {
+            return i;
         }
     }
+    most
 }
 
 // The n tuples from p on, compared with the name of one tuple.
@@ -244,19 +223,10 @@ pub fn compare_to_one(a: &[u8], p: usize, n: usize, t: Tuple) -> Ordering
     requires { p + tuple_size * n ≤ length a.now }
     ensures { result ≡ compare_rows (tuples_at a.now p n) (t ∷ []) }
 {
-    if n < 1 {
+    if n == 0 {
         return Ordering::Less;
     }
-    match compare_tuple(a, p, t) {
-        Ordering::Less => Ordering::Less,
-        Ordering::Equal => {
-            if n < 2 {
-                return Ordering::Equal;
-            }
-            Ordering::Greater
-        }
-        Ordering::Greater => Ordering::Greater,
-    }
+    compare_tuple(a, p, t).then(n.cmp(&1))
 }
 
 // The names of two slots with room for so many tuples compared.
@@ -271,7 +241,7 @@ pub fn compare_slots(a: &[u8], b: &[u8], room: usize) -> Ordering
 fn offset_ok(o: u32) -> bool
     ensures { result ≡ within_ℤ (negsuc 0) (pos 2147483646) (signed o) }
 {
-    std::num::wrapping_add_u32(o, 1) <= HIGH_OFFSET
+    o.wrapping_add(1) <= HIGH_OFFSET
 }
 
 // An ordinary tuple stands at p. Position and node are read at once, the lowest byte first: a position of 0 or 65535 reads the same either
@@ -282,13 +252,7 @@ fn ordinary_at(s: &[u8], p: usize) -> bool
 {
     let both = numbers::read_low32(s, p);
     let position = both % TWO_BYTES;
-    if position < 1 {
-        return false;
-    }
-    if LAST_POSITION < position {
-        return false;
-    }
-    if both < TWO_BYTES {
+    if position < 1 || LAST_POSITION < position || both < TWO_BYTES {
         return false;
     }
     offset_ok(numbers::read_u32(s, p + OFFSET))
@@ -299,11 +263,7 @@ fn last_at(s: &[u8], p: usize) -> bool
     requires { p + tuple_size ≤ length s.now }
     ensures { result ≡ ordinary_from (pos 0) (tuple_at s.now p) }
 {
-    if ordinary_at(s, p) {
-        numbers::read_u32(s, p + OFFSET) < NEGATIVE
-    } else {
-        false
-    }
+    ordinary_at(s, p) && numbers::read_u32(s, p + OFFSET) < NEGATIVE
 }
 
 // One of the two end markers stands at p.
@@ -313,13 +273,7 @@ pub fn marker_at(s: &[u8], p: usize) -> bool
 {
     let front = numbers::read_u64(s, p);
     let offset = numbers::read_u32(s, p + OFFSET);
-    if front == 0 {
-        return offset == 0;
-    }
-    if front == HIGH_FRONT {
-        return offset == HIGH_OFFSET;
-    }
-    false
+    (front == 0 && offset == 0) || (front == HIGH_FRONT && offset == HIGH_OFFSET)
 }
 
 // The n tuples from p on are such as a name begins with, where the first k are known to be: the first is ordinary, and markers may stand
@@ -328,21 +282,13 @@ fn leads_from(s: &[u8], p: usize, n: usize, k: usize) -> bool
     requires { (p + tuple_size * n ≤ length s.now) × (leads (tuples_at s.now p k) ≡ true) }
     ensures { result ≡ leads (tuples_at s.now p n) }
 {
-    let mut i: usize = k;
-    loop {
-        if n <= i {
-            break true;
+    for i in k..n {
+        let at = p + TUPLE * i;
+        if !(ordinary_at(s, at) || (0 < i && marker_at(s, at))) {
+            return false;
         }
-        if ordinary_at(s, p + TUPLE * i) {} else {
-            if i < 1 {
-                break false;
-            }
-            if !marker_at(s, p + TUPLE * i) {
-                break false;
-            }
-        }
-        i += 1;
     }
+    true
 }
 
 // The n tuples from p on are a name, where the first k are known to begin one. The last is tested before the others, so that each tuple is
@@ -352,10 +298,7 @@ fn name_from(s: &[u8], p: usize, n: usize, k: usize) -> bool
     ensures { result ≡ is_name (tuples_at s.now p n) }
 {
     let last = n - 1;
-    if !last_at(s, p + TUPLE * last) {
-        return false;
-    }
-    leads_from(s, p, last, k)
+    last_at(s, p + TUPLE * last) && leads_from(s, p, last, k)
 }
 
 // The n tuples from p on are a name.
@@ -373,13 +316,7 @@ fn rises_at(a: &[u8], p: usize, n: usize, s: &[u8], q: usize, d: usize, i: usize
     requires i_value { (tuples_at a.now p i ≡ tuples_at s.now q i) × (i < n → i < d → is_eq (compare_tuples (tuple_at a.now (p + tuple_size * i)) (tuple_at s.now (q + tuple_size * i))) ≡ false) }
     ensures { result ≡ is_lt (compare_rows (tuples_at a.now p n) (tuples_at s.now q d)) }
 {
-    if d <= i {
-        return false;
-    }
-    if n <= i {
-        return true;
-    }
-    compare_tuples(a, p + TUPLE * i, s, q + TUPLE * i).is_lt()
+    i < d && (n <= i || compare_tuples(a, p + TUPLE * i, s, q + TUPLE * i).is_lt())
 }
 
 // The d tuples from q on are a name, above the n from p on, which begin one or are none: what the two share is looked at once.
@@ -389,10 +326,7 @@ pub fn follows(a: &[u8], p: usize, n: usize, s: &[u8], q: usize, d: usize) -> bo
     ensures { result ≡ (is_name (tuples_at s.now q d) && is_lt (compare_rows (tuples_at a.now p n) (tuples_at s.now q d))) }
 {
     let i = alike(a, p, n, s, q, d);
-    if !name_from(s, q, d, i) {
-        return false;
-    }
-    rises_at(a, p, n, s, q, d, i)
+    name_from(s, q, d, i) && rises_at(a, p, n, s, q, d, i)
 }
 
 // The bytes of a tuple's place are zero. Everything is read before it is tested: the compiler then makes one test of both.
@@ -402,10 +336,7 @@ fn zero_at(s: &[u8], p: usize) -> bool
 {
     let front = numbers::read_u64(s, p);
     let end = numbers::read_u32(s, p + OFFSET);
-    if front != 0 {
-        return false;
-    }
-    end == 0
+    front == 0 && end == 0
 }
 
 // The tuples are zero from d on, where they are from k on: one by one from the last.
@@ -413,23 +344,12 @@ fn zero_up_to(s: &[u8], d: usize, k: usize) -> bool
     requires { (d ≤ k) × (head_size + tuple_size * k ≤ length s.now) × (all_zero (drop (head_size + tuple_size * k) s.now) ≡ true) }
     ensures { result ≡ all_zero (drop (head_size + tuple_size * d) s.now) }
 {
-    let mut i: usize = k;
-    loop {
-        if i <= d {
-            break true;
-        }
-        i -= 1;
-        if zero_at(s, HEAD + TUPLE * i) {} else {
-            break false;
+    for i in (d..k).rev() {
+        if !zero_at(s, HEAD + TUPLE * i) {
+            return false;
         }
     }
-}
-
-// The bits of two bytes together, which are zero where both bytes are.
-fn either(a: u8, b: u8) -> u8
-    ensures { (result == 0) ≡ (a == 0 && b == 0) }
-{
-    a | b
+    true
 }
 
 // The n bytes from p on and the n from q on are zero: so are their bits together, for which the compiler takes many bytes at a time, and makes
@@ -438,11 +358,9 @@ fn zero_runs(s: &[u8], p: usize, q: usize, n: usize) -> bool
     requires { (p + n ≤ length s.now) × (q + n ≤ length s.now) }
     ensures { result ≡ (all_zero (take n (drop p s.now)) && all_zero (take n (drop q s.now))) }
 {
-    let mut all: u8 = 0;
-    let mut i: usize = 0;
-    while i < n {
-        all = either(either(all, s[p + i]), s[q + i]);
-        i += 1;
+    let mut all = 0;
+    for i in 0..n {
+        all |= s[p + i] | s[q + i];
     }
     all == 0
 }
@@ -475,14 +393,8 @@ fn head_ok(s: &[u8], room: usize) -> bool
     requires { length s.now ≡ size_over room }
     ensures { result ≡ head_over room s.now }
 {
-    let d = s[0] as usize;
-    if d < 1 {
-        return false;
-    }
-    if room < d {
-        return false;
-    }
-    numbers::read_u32(s, 0) % THREE_BYTES == 0
+    let d = usize::from(s[0]);
+    1 <= d && d <= room && numbers::read_u32(s, 0) % THREE_BYTES == 0
 }
 
 // "depth 1..8, three zero bytes, line number (u32, any value, repeats allowed), then eight tuples of 12 bytes, the first depth of them
@@ -517,7 +429,11 @@ pub fn write_tuple(out: &mut [u8], p: usize, t: Tuple)
     requires { p + tuple_size ≤ length out.old }
     ensures { out.new ≡ put out.old p (tuple_bytes t) }
 {
-    numbers::write_u32(out, p, (t.position as u32) * TWO_BYTES + (t.node as u32));
+    numbers::write_u32(
+        out,
+        p,
+        u32::from(t.position) * TWO_BYTES + u32::from(t.node),
+    );
     numbers::write_u32(out, p + SEQUENCE, t.sequence);
     numbers::write_u32(out, p + OFFSET, numbers::to_unsigned(t.offset));
 }
@@ -527,12 +443,8 @@ pub fn write_row(out: &mut [u8], p: usize, a: Name)
     requires { p + tuple_size * length (row_of a) ≤ length out.old }
     ensures { out.new ≡ put out.old p (row_bytes (row_of a)) }
 {
-    let ts = a.tuples;
-    let n = names::tuples_in(a);
-    let mut k: usize = 0;
-    while k < n {
-        write_tuple(out, p + TUPLE * k, ts[k]);
-        k += 1;
+    for (k, t) in a.row().iter().enumerate() {
+        write_tuple(out, p + TUPLE * k, *t);
     }
 }
 
@@ -628,10 +540,8 @@ pub fn copy_long(out: &mut [u8], p: usize, src: &[u8])
         return;
     }
     let last = n - FEW * TUPLE;
-    let mut i: usize = 0;
-    while i < last {
+    for i in (0..last).step_by(FEW * TUPLE) {
         copy_four(out, p + i, src, i);
-        i += FEW * TUPLE;
     }
     copy_four(out, p + last, src, last);
 }

@@ -58,12 +58,9 @@ fn write_names(names: &[u8], out: &mut [u8], p: usize) -> usize
     ensures value { result ≡ p + length (flatten (map name_field (names_of names.now))) }
     ensures out_after { out.new ≡ put out.old p (flatten (map name_field (names_of names.now))) }
 {
-    let n = names.len() / SLOT;
-    let mut k: usize = 0;
     let mut place = p;
-    while k < n {
+    for k in 0..names.len() / SLOT {
         place = name_fields::write_name(out, place, NAME_TAG, names, pages::span_of(names, k));
-        k += 1;
     }
     place
 }
@@ -95,13 +92,9 @@ fn write_fields(x: Numbers, names: &[u8], out: &mut [u8])
 fn may_write(x: Numbers, names: &[u8]) -> bool
     ensures { result ≡ may_write x names.now }
 {
-    if !messages::numbers_ok(x) {
-        return false;
-    }
-    if !pages::log_ok(names) {
-        return false;
-    }
-    names.len() / SLOT <= messages::most_names(x.kind)
+    messages::numbers_ok(x)
+        && pages::log_ok(names)
+        && names.len() / SLOT <= messages::most_names(x.kind)
 }
 
 fn line_size(kind: u8) -> usize
@@ -115,13 +108,9 @@ fn names_size(names: &[u8]) -> usize
     requires { keeps_layout names.now ≡ true }
     ensures { (result ≡ length (flatten (map name_field (names_of names.now)))) × (result ≤ max_slots * (field_head + tuple_size * limit)) }
 {
-    let n = names.len() / SLOT;
-    let mut k: usize = 0;
-    let mut size: usize = 0;
-    while k < n {
-        let name = pages::span_of(names, k);
-        size = size + FIELD + TUPLE * name.count;
-        k += 1;
+    let mut size = 0;
+    for k in 0..names.len() / SLOT {
+        size += FIELD + TUPLE * pages::span_of(names, k).count;
     }
     size
 }

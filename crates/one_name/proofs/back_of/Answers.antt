@@ -11,9 +11,6 @@ use Rattle.one_name.proofs.TestedSides.{last_is, under_first, from_first, over_l
 use Rattle.one_name.proofs.Shapes.{shape_low, shape_high, shape_within}
 use Rattle.one_name.proofs.back_of.Goals as goal
 
-pub under-requires : goal.under-requires
-under-requires c = (c.requires.1, c.strip_below.ensures.0)
-
 pub returns-then-is_below : goal.returns-then-is_below
 returns-then-is_below c =
     let a = c.args in
@@ -41,9 +38,6 @@ strip_above-requires c =
     let l = logged c.args.log.now c.requires.0 in
     (omega (arith, l.some, l.few, l.count), c.requires.1)
 
-pub over-requires : goal.over-requires
-over-requires c = (c.requires.1, c.strip_above.ensures.0)
-
 pub returns-then-is_above : goal.returns-then-is_above
 returns-then-is_above c =
     let a = c.args in
@@ -58,17 +52,14 @@ returns-then-is_above c =
     c.over.ensures ∙ ap (λ (k : ℕ). over_shape x (names_of log) k cut) (last_is log a.author x c.requires.0)
     ∙ shape_high a.author (names_of log) x (logged log c.requires.0).some f h cut (omega (arith, c.strip_above.ensures.0)) v
 
-pub back_within-requires : goal.back_within-requires
-back_within-requires c =
+pub back_within-requires-clause-n : goal.back_within-requires-clause-n
+back_within-requires-clause-n c =
     let a = c.args in
     let log = a.log.now in
     let x = row_at a.s.now a.c in
     let first = c.first_position-p.ensures in
     let f = from_first log a.author x c.requires.0 first c.lead.ensures c.is_below.ensures c.if-is_below.false in
-    record {
-      log_value = c.requires;
-      n = (f, to_last log a.author x c.requires.0 first c.numbered.ensures c.is_above.ensures c.if-is_above.false);
-    }
+    (f, to_last log a.author x c.requires.0 first c.numbered.ensures c.is_above.ensures c.if-is_above.false)
 
 pub returns : goal.returns
 returns c =

@@ -5,12 +5,12 @@ use Rattle.pages.specs.Pages.{check_log}
 use Rattle.pages.proofs.SlotBySlot.{length_slots}
 use Rattle.pages.proofs.check_log.Goals as goal
 
-pub returns-then-not-log_ok : goal.returns-then-not-log_ok
+pub returns-else-log_ok : goal.returns-else-log_ok
 unfolding check_log
-returns-then-not-log_ok c = simp (sym c.log_ok.ensures ∙ c.if-not-log_ok.true)
+returns-else-log_ok c = simp (sym c.log_ok.ensures ∙ c.if-log_ok.false)
 
-pub returns : goal.returns
+pub returns-then-log_ok : goal.returns-then-log_ok
 unfolding check_log
-returns c =
-    simp (sym c.log_ok.ensures ∙ c.if-not-log_ok.false)
+returns-then-log_ok c =
+    simp (sym c.log_ok.ensures ∙ c.if-log_ok.true)
     (ap Ok (sym (length_slots c.args.log.now)))

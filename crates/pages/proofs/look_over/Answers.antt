@@ -2,14 +2,14 @@
 use borrow.Author.Tests.{eq-eqb, ne_eqb, le-leb, lt-leb}
 use Rattle.pages.specs.Pages.{layout_over}
 use Rattle.pages.proofs.look_over.Goals as goal
+use Rattle.pages.proofs.look_over.Goals.{then-page-size-ne0-via-then-page-size-ne0, then-page-size-ne0-via-else-page-size-ne0+then-page-size-gt-SLOTS}
 
 pub returns-then-page-size-ne0 : goal.returns-then-page-size-ne0
 unfolding layout_over
-returns-then-page-size-ne0 c = simp (ne_eqb _ _ c.if-page-size-ne0.true)
-
-pub returns-then-page-size-gt-SLOTS : goal.returns-then-page-size-gt-SLOTS
-unfolding layout_over
-returns-then-page-size-gt-SLOTS c = simp (eq-eqb _ _ c.if-page-size-ne0.false, lt-leb _ _ c.if-page-size-gt-SLOTS.true)
+returns-then-page-size-ne0 c = elim c.then-page-size-ne0.branch [
+  | then-page-size-ne0-via-then-page-size-ne0 w ↦ simp (ne_eqb _ _ w.if-page-size-ne0.true)
+  | then-page-size-ne0-via-else-page-size-ne0+then-page-size-gt-SLOTS w ↦ simp (eq-eqb _ _ w.if-page-size-ne0.false, lt-leb _ _ w.if-page-size-gt-SLOTS.true)
+]
 
 pub returns : goal.returns
 unfolding layout_over

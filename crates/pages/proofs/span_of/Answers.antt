@@ -9,16 +9,16 @@ use Rattle.pages.specs.Pages.{names_of}
 use Rattle.pages.proofs.SlotBySlot.{lent_tuples, length_names}
 use Rattle.pages.proofs.span_of.Goals as goal
 
-pub returns-then-k-page : goal.returns-then-k-page
-returns-then-k-page c =
-    let s = c.args.page.now in
-    let k = c.args.k in
-    let d = c.depth.ensures in
-    ((omega (arith, d), omega (arith, d)), lent_tuples s (length s / slot_size) k (slot_size * k) refl c.if-k-page.true c.depth.result d)
-
 pub returns : goal.returns
 returns c =
     let s = c.args.page.now in
     let k = c.args.k in
-    let h : length (names_of s) ≤ k = rw (length_names s (length s / slot_size)) c.if-k-page.false in
+    let d = c.depth.ensures in
+    ((omega (arith, d), omega (arith, d)), lent_tuples s (length s / slot_size) k (slot_size * k) refl c.if-page-k.false c.depth.result d)
+
+pub returns-then-page-k : goal.returns-then-page-k
+returns-then-page-k c =
+    let s = c.args.page.now in
+    let k = c.args.k in
+    let h : length (names_of s) ≤ k = rw (length_names s (length s / slot_size)) c.if-page-k.true in
     ((omega arith, omega arith), sym (get_or-eq_default (names_of s) [] h))

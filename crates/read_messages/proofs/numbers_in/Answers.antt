@@ -4,12 +4,9 @@ use mathlib.Core.Bool.{cond}
 use lib.Dec.{eqb}
 use Rattle.numbers.specs.Bytes.{at32}
 use Rattle.fields.specs.Fields.{field_head}
-use Rattle.messages.specs.Messages.{insert, epoch_place, author_place, ends_as}
+use Rattle.messages.specs.Messages.{insert, epoch_place, author_place}
 use Rattle.read_messages.proofs.AtCursor.{pair_at}
 use Rattle.read_messages.proofs.numbers_in.Goals as goal
-
-pub line_in-line-requires : goal.line_in-line-requires
-line_in-line-requires c = (λ i. ends_as (c.kind_in-kind.ensures i) (c.requires.names_place_in_bounds.1 i)) ∙ c.requires.message_value
 
 pub returns : goal.returns
 returns c =

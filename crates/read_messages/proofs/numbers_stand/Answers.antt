@@ -9,27 +9,6 @@ use Rattle.fields.proofs.FieldAt.{stands_long}
 use Rattle.messages.specs.Messages.{kind_tag, epoch_tag, author_tag, kind_size, pair_size, epoch_place, author_place}
 use Rattle.read_messages.proofs.numbers_stand.Goals as goal
 
-pub returns-then-not-field_stands : goal.returns-then-not-field_stands
-returns-then-not-field_stands c =
-    let h = sym c.field_stands.ensures ∙ c.if-not-field_stands.true in
-    sym (rw h)
-
-pub after_field-epoch-requires : goal.after_field-epoch-requires
-after_field-epoch-requires c =
-    let h = sym c.field_stands.ensures ∙ c.if-not-field_stands.false in
-    let v = stands_long c.args.message.now c.args.cursor.at kind_tag kind_size h in
-    let l = v.0 in
-    let z = v.1 in
-    omega arith
-
-pub field_stands-requires-2 : goal.field_stands-requires-2
-field_stands-requires-2 c =
-    let h = sym c.field_stands.ensures ∙ c.if-not-field_stands.false in
-    let v = stands_long c.args.message.now c.args.cursor.at kind_tag kind_size h in
-    let l = v.0 in
-    let z = v.1 in
-    omega arith
-
 pub returns-then-not-field_stands-2 : goal.returns-then-not-field_stands-2
 returns-then-not-field_stands-2 c =
     let s = c.args.message.now in
@@ -39,22 +18,6 @@ returns-then-not-field_stands-2 c =
     let e : c.after_field-epoch.result.at ≡ p + epoch_place = let z = v.1 in let y = c.after_field-epoch.ensures in omega arith in
     let g = sym c.field_stands-2.ensures ∙ c.if-not-field_stands-2.true in
     sym (rw (drop-drop epoch_place p s, h, ap (λ (n : ℕ). stands epoch_tag pair_size (drop n s)) (sym e) ∙ g))
-
-pub after_field-author-requires : goal.after_field-author-requires
-after_field-author-requires c =
-    let g = sym c.field_stands-2.ensures ∙ c.if-not-field_stands-2.false in
-    let v = stands_long c.args.message.now c.after_field-epoch.result.at epoch_tag pair_size g in
-    let l = v.0 in
-    let z = v.1 in
-    omega arith
-
-pub field_stands-requires-3 : goal.field_stands-requires-3
-field_stands-requires-3 c =
-    let g = sym c.field_stands-2.ensures ∙ c.if-not-field_stands-2.false in
-    let v = stands_long c.args.message.now c.after_field-epoch.result.at epoch_tag pair_size g in
-    let l = v.0 in
-    let z = v.1 in
-    omega arith
 
 pub returns : goal.returns
 returns c =

@@ -4,12 +4,6 @@ use Rattle.name_fields.proofs.NameAt.{name_long, tuples_at_lem}
 use Rattle.messages.specs.Messages.{name_tag}
 use Rattle.read_messages.proofs.span_in.Goals as goal
 
-pub overflow_add-at : goal.overflow_add-at
-overflow_add-at c = let v = name_long name_tag c.args.message.now c.args.cursor.at c.requires in omega arith
-
-pub size_at-count-requires : goal.size_at-count-requires
-size_at-count-requires c = let v = name_long name_tag c.args.message.now c.args.cursor.at c.requires in omega arith
-
 pub returns : goal.returns
 returns c =
     let s = c.args.message.now in

@@ -1,13 +1,8 @@
 -- `read_messages::write_slot` meets its contract. Assumes nothing.
-use mathlib.Core.Path.{◌∙◌, ap}
-use Prim.Native.Nat.{◌*◌}
+use mathlib.Core.Path.{ap}
 use native.Mathlib.Omega.{arith}
 use lib.ListN.{length}
-use Rattle.names.specs.Ordering.{Row}
-use Rattle.numbers.specs.Bytes.{put}
-use Rattle.slots.specs.Slots.{slot_size, slot_bytes}
 use Rattle.slots.proofs.TuplesInBytes.{length_tuples_at}
-use Rattle.messages.specs.Calls.{bare}
 use Rattle.read_messages.proofs.write_slot.Goals as goal
 
 pub copy_slot-requires : goal.copy_slot-requires
@@ -15,8 +10,3 @@ copy_slot-requires c =
     let name = c.span_in in
     let x = name.result in
     (c.requires.2, (name.ensures.0, omega (arith, c.requires.1, ap length name.ensures.1, length_tuples_at c.args.message.now x.at x.count)))
-
-pub returns : goal.returns
-returns c =
-    let o = c.args.out.now in
-    c.copy_slot.ensures ∙ ap (λ (a : Row). put o (slot_size * c.args.i) (slot_bytes (bare a))) c.span_in.ensures.1

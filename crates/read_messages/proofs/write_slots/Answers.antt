@@ -1,15 +1,8 @@
 -- `read_messages::write_slots` meets its contract. Assumes nothing.
 use Prim.Native.Nat.{◌<◌}
 use native.Mathlib.Omega.{arith}
-use Rattle.read_messages.proofs.SecondPassSlots.{placing_first, placing_stands, placing_few, placing_on, placing_end}
+use Rattle.read_messages.proofs.SecondPassSlots.{placing_first, placing_on, placing_end}
 use Rattle.read_messages.proofs.write_slots.Goals as goal
-
-pub write_slot-requires : goal.write_slot-requires
-write_slot-requires c =
-    let a = c.args in
-    let v = placing_first a.message.now a.cursor.at a.n a.out.now c.requires.0 c.requires.1 in
-    let h : 0 < a.n = omega (arith, c.if-n-eq1.true) in
-    (placing_stands v h, placing_few v h, omega (arith, c.if-n-eq1.true, c.requires.2))
 
 pub returns-then-n-eq1 : goal.returns-then-n-eq1
 returns-then-n-eq1 c =

@@ -1,6 +1,7 @@
 -- `runs::beside` meets its contract. Assumes nothing.
 use mathlib.Core.Path.{sym, ◌∙◌}
 use native.Mathlib.Omega.{arith}
+use Rattle.std.proofs.Common.{inl, inr}
 use Rattle.slots.specs.Tuples.{row_at}
 use Rattle.runs.proofs.RunNames.{last_tuple, name_offset}
 use Rattle.runs.proofs.BesideInBytes.{beside_short, beside_long}
@@ -17,15 +18,10 @@ pub returns-in-Equal : goal.returns-in-Equal
 returns-in-Equal c =
     let x = c.args.x in
     let y = c.args.y in
-    beside_short c.args.a.now x.at x.count c.args.b.now y.at y.count c.requires.2 c.if-y-last.true
-    c.compare_rows.ensures c.in-Equal.is
-
-pub returns-in-Greater : goal.returns-in-Greater
-returns-in-Greater c =
-    let x = c.args.x in
-    let y = c.args.y in
-    beside_short c.args.a.now x.at x.count c.args.b.now y.at y.count c.requires.2 c.if-y-last.true
-    c.compare_rows.ensures c.in-Greater.is
+    elim c.in-Equal.is [
+      | inl e ↦ beside_short c.args.a.now x.at x.count c.args.b.now y.at y.count c.requires.2 c.if-y-last.true c.compare_rows.ensures e
+      | inr e ↦ beside_short c.args.a.now x.at x.count c.args.b.now y.at y.count c.requires.2 c.if-y-last.true c.compare_rows.ensures e
+    ]
 
 pub beside_tuples-requires : goal.beside_tuples-requires
 beside_tuples-requires c =
@@ -49,9 +45,9 @@ returns-in-Equal-compare_rows c =
     ∙ beside_long c.args.a.now x.at x.count c.args.b.now y.at y.count c.requires.2 c.if-y-last.false
     c.compare_rows-2.ensures c.in-Equal-compare_rows.is
 
-pub returns-in-Greater-compare_rows : goal.returns-in-Greater-compare_rows
-returns-in-Greater-compare_rows c =
+pub returns-in-Greater : goal.returns-in-Greater
+returns-in-Greater c =
     let x = c.args.x in
     let y = c.args.y in
     beside_long c.args.a.now x.at x.count c.args.b.now y.at y.count c.requires.2 c.if-y-last.false
-    c.compare_rows-2.ensures c.in-Greater-compare_rows.is
+    c.compare_rows-2.ensures c.in-Greater.is

@@ -13,6 +13,7 @@ use Rattle.numbers.proofs.SignedTests.{tested}
 use Rattle.runs.specs.Beside.{by_offsets}
 use Rattle.runs.proofs.ByOffsets.{is_lower, one_more_fits, right_before, lower, lower_deeper, not_lower, reaching, minus}
 use Rattle.runs.proofs.beside_offsets.Goals as goal
+use Rattle.runs.proofs.beside_offsets.Goals.{else-ends-via-then-ends+else-y-x-2, else-ends-via-else-ends}
 
 -- one more than y as the code has it, and two numbers of the same bits
 one_more : (y : ℤ) → SFits w32 y → to_z w32 (of_z w32 y) +ℤ pos 1 ≡ suc_ℤ y
@@ -51,23 +52,19 @@ returns-then-y-x-2 c =
     let q : suc_ℤ y ≡ pos c.requires.0 = same_bits one f.x (ap (of_z w32) (sym (one_more y f.y)) ∙ c.if-y-x-2.true) ∙ e in
     sym ((λ i. by_offsets (e i) y (c.if-ends.true i)) ∙ right_before y c.requires.0 q)
 
-pub returns-else-y-x-2 : goal.returns-else-y-x-2
-returns-else-y-x-2 c =
-    let f = c.ranges in
-    let y = c.args.y in
-    let e = c.requires.1 in
-    let low = (below f.x f.y e c.if-y-x.true).0 in
-    sym
-    ((λ i. by_offsets (e i) y (c.if-ends.true i))
-    ∙ lower y c.requires.0 low (λ q. c.if-y-x-2.false (ap (of_z w32) (one_more y f.y ∙ q ∙ sym e))))
-
 pub returns-else-ends : goal.returns-else-ends
 returns-else-ends c =
     let f = c.ranges in
     let y = c.args.y in
     let e = c.requires.1 in
     let low = (below f.x f.y e c.if-y-x.true).0 in
-    sym ((λ i. by_offsets (e i) y (c.if-ends.false i)) ∙ lower_deeper y c.requires.0 low)
+    elim c.else-ends.branch [
+      | else-ends-via-then-ends+else-y-x-2 w ↦
+          sym
+          ((λ i. by_offsets (e i) y (w.if-ends.true i))
+          ∙ lower y c.requires.0 low (λ q. w.if-y-x-2.false (ap (of_z w32) (one_more y f.y ∙ q ∙ sym e))))
+      | else-ends-via-else-ends w ↦ sym ((λ i. by_offsets (e i) y (w.if-ends.false i)) ∙ lower_deeper y c.requires.0 low)
+    ]
 
 pub overflow_sub-i : goal.overflow_sub-i
 overflow_sub-i c =
@@ -89,8 +86,8 @@ returns-then-ends-2 c =
     rw (r.4, to_z-of_z w32 (pos (r.0 - c.requires.0)) r.3)
     (sym ((λ i. by_offsets (e i) (r.1 i) (c.if-ends-2.true i)) ∙ reaching r.0 c.requires.0 true r.2))
 
-pub returns : goal.returns
-returns c =
+pub returns-else-ends-2 : goal.returns-else-ends-2
+returns-else-ends-2 c =
     let f = c.ranges in
     let e = c.requires.1 in
     let r = reached f.x f.y e c.if-y-x.false in

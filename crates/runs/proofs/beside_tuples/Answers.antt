@@ -52,8 +52,8 @@ returns-then-x-y-2 c =
     (λ i. omega (arith, c.type_inv.a i)) (λ i. omega (arith, c.type_inv.b i))
     c.read_u64-x.ensures c.read_u64-y.ensures (ℕ_less _ _ c.if-x-y-2.true)
 
-pub returns : goal.returns
-returns c =
+pub returns-else-x-y-2 : goal.returns-else-x-y-2
+returns-else-x-y-2 c =
     let x = c.args in
     let a = x.a.now in
     let b = x.b.now in

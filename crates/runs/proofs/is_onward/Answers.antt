@@ -37,6 +37,11 @@ overflow_add-read_u32 c =
     let v : at32 s (p + (tuple_size * n - 4)) ≤ 2147483646 = rw e at (name_at s p n c.requires.n_value.0).1 in
     omega (arith, c.read_u32-2.ensures, c.requires.n_in_bounds.2, v)
 
+pub same_but_last-requires : goal.same_but_last-requires
+same_but_last-requires c =
+    let h = name_count c.args.a.now c.args.p c.args.n c.requires.n_value.0 in
+    (h, c.requires.n_in_bounds.0, c.requires.n_in_bounds.1)
+
 pub returns-then-read_u32-k : goal.returns-then-read_u32-k
 returns-then-read_u32-k c =
     let x = c.args in
@@ -45,28 +50,24 @@ returns-then-read_u32-k c =
     let same = same_but_last (tuples_at a x.p x.n) (tuples_at b x.q x.n) in
     let m = c.read_u32-2.result in
     let n = c.read_u32.result in
-    let apart = (λ i. eqb (sym c.read_u32-2.ensures i + x.k) (sym c.read_u32.ensures i)) ∙ ne_eqb (m + x.k) n (λ e. c.if-read_u32-k.true (sym e)) in
-    sym
+    let equal = (λ i. eqb (sym c.read_u32-2.ensures i + x.k) (sym c.read_u32.ensures i)) ∙ eq-eqb (m + x.k) n (sym c.if-read_u32-k.true) in
+    c.same_but_last.ensures
+    ∙ sym
     (is_onward_at x.k a x.p b x.q x.n c.requires.n_value.0 c.requires.n_value.1
-    ∙ ap (λ (e : Bool). same && e) apart
-    ∙ and-false same)
+    ∙ ap (λ (e : Bool). same && e) equal
+    ∙ and-true same)
 
-pub same_but_last-requires : goal.same_but_last-requires
-same_but_last-requires c =
-    let h = name_count c.args.a.now c.args.p c.args.n c.requires.n_value.0 in
-    (h, c.requires.n_in_bounds.0, c.requires.n_in_bounds.1)
-
-pub returns : goal.returns
-returns c =
+pub returns-else-read_u32-k : goal.returns-else-read_u32-k
+returns-else-read_u32-k c =
     let x = c.args in
     let a = x.a.now in
     let b = x.b.now in
     let same = same_but_last (tuples_at a x.p x.n) (tuples_at b x.q x.n) in
     let m = c.read_u32-2.result in
     let n = c.read_u32.result in
-    let equal = (λ i. eqb (sym c.read_u32-2.ensures i + x.k) (sym c.read_u32.ensures i)) ∙ eq-eqb (m + x.k) n (sym c.if-read_u32-k.false) in
-    c.same_but_last.ensures
+    let apart = (λ i. eqb (sym c.read_u32-2.ensures i + x.k) (sym c.read_u32.ensures i)) ∙ ne_eqb (m + x.k) n (λ e. c.if-read_u32-k.false (sym e)) in
+    ne_eqb _ _ c.if-read_u32-k.false
     ∙ sym
     (is_onward_at x.k a x.p b x.q x.n c.requires.n_value.0 c.requires.n_value.1
-    ∙ ap (λ (e : Bool). same && e) equal
-    ∙ and-true same)
+    ∙ ap (λ (e : Bool). same && e) apart
+    ∙ and-false same)

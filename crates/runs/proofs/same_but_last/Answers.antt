@@ -17,22 +17,23 @@ returns-then-read_u64 c =
     let a = x.a.now in
     let b = x.b.now in
     let before = is_eq (compare_rows (tuples_at a x.p (x.n - 1)) (tuples_at b x.q (x.n - 1))) in
-    let apart = (λ i. eqb (sym c.read_u64.ensures i) (sym c.read_u64-2.ensures i)) ∙ ne_eqb c.read_u64.result c.read_u64-2.result c.if-read_u64.true in
-    sym
-    (same_at a x.p b x.q x.n (λ i. omega (arith, c.type_inv.a i)) (λ i. omega (arith, c.type_inv.b i)) c.requires.0
-    ∙ ap (λ (e : Bool). before && e) apart
-    ∙ and-false before)
-
-pub returns : goal.returns
-returns c =
-    let x = c.args in
-    let a = x.a.now in
-    let b = x.b.now in
-    let before = is_eq (compare_rows (tuples_at a x.p (x.n - 1)) (tuples_at b x.q (x.n - 1))) in
-    let equal = (λ i. eqb (sym c.read_u64.ensures i) (sym c.read_u64-2.ensures i)) ∙ eq-eqb c.read_u64.result c.read_u64-2.result c.if-read_u64.false in
+    let equal = (λ i. eqb (sym c.read_u64.ensures i) (sym c.read_u64-2.ensures i)) ∙ eq-eqb c.read_u64.result c.read_u64-2.result c.if-read_u64.true in
     c.is_eq.ensures
     ∙ ap is_eq c.compare_rows.ensures
     ∙ sym
     (same_at a x.p b x.q x.n (λ i. omega (arith, c.type_inv.a i)) (λ i. omega (arith, c.type_inv.b i)) c.requires.0
     ∙ ap (λ (e : Bool). before && e) equal
     ∙ and-true before)
+
+pub returns-else-read_u64 : goal.returns-else-read_u64
+returns-else-read_u64 c =
+    let x = c.args in
+    let a = x.a.now in
+    let b = x.b.now in
+    let before = is_eq (compare_rows (tuples_at a x.p (x.n - 1)) (tuples_at b x.q (x.n - 1))) in
+    let apart = (λ i. eqb (sym c.read_u64.ensures i) (sym c.read_u64-2.ensures i)) ∙ ne_eqb c.read_u64.result c.read_u64-2.result c.if-read_u64.false in
+    ne_eqb _ _ c.if-read_u64.false
+    ∙ sym
+    (same_at a x.p b x.q x.n (λ i. omega (arith, c.type_inv.a i)) (λ i. omega (arith, c.type_inv.b i)) c.requires.0
+    ∙ ap (λ (e : Bool). before && e) apart
+    ∙ and-false before)

@@ -6,7 +6,4 @@ use Rattle.slots.specs.Slots.{head_size}
 use Rattle.slots.proofs.zero_up_to.Given as goal
 
 abbrev pub invariant-loop-i : goal.invariant-loop-i
-invariant-loop-i l = (l.d ≤ l.i) × (l.i ≤ l.k) × (all_zero (drop (head_size + tuple_size * l.i) l.s) ≡ true)
-
-abbrev pub decreases-loop-i : goal.decreases-loop-i
-decreases-loop-i l = l.i
+invariant-loop-i l = (l.d ≤ l.i) × (all_zero (drop (head_size + tuple_size * l.i) l.s) ≡ true)
