@@ -6,7 +6,6 @@ use Rattle.names.specs.declared.Author.{Author}
 use Rattle.name_renames.specs.Rules.{N}
 use Rattle.numbers.specs.Bytes.{Bytes}
 use Rattle.slots.specs.Tuples.{tuple_size}
-use Rattle.slots.specs.Slots.{Slot}
 use Rattle.std.specs.declared.result.Result.TheVariants.{Ok}
 use Rattle.pages.specs.Pages.{max_slots, slots_of, names_of}
 use Rattle.page_renames.specs.Renames.{rename_outcome}
