@@ -14,7 +14,7 @@ ghost use Rattle.groups.specs.Forms.{group_head};
 ghost use Rattle.form_changes.specs.Changes.{head_in, front, back, given, changed, Headed, Fits, Given};
 
 use answers::{Answer, Refusal};
-use groups::{AFTER_NAME, GROUP, LINE};
+use groups::{AFTER_NAME, GROUP, LINE, SLOT_LINE};
 use slots::{Span, TUPLE};
 
 // What stands before the line numbers of a group: its first name, which comes `onward` after the one at `name`, and how many slots it has. Without slots
@@ -36,9 +36,6 @@ pub struct Change {
     pub count: usize,
     pub rest: Head,
 }
-
-// Where the line number stands in a slot.
-const SLOT_LINE: usize = 4;
 
 // ── how many bytes ──
 
@@ -79,12 +76,10 @@ fn write_front(form: &[u8], c: Change, out: &mut [u8])
     requires { Fits form.now c × (c.from ≤ length out.old) }
     ensures { out.new ≡ put out.old 0 (front form.now c) }
 {
-    let from = c.from;
-    slots::copy_long(out, 0, &form[..from]);
-    if c.count < 1 {
-        return;
+    slots::copy_long(out, 0, &form[..c.from]);
+    if 0 < c.count {
+        forms::write_sizes(out, c.lines - AFTER_NAME, c.count);
     }
-    forms::write_sizes(out, c.lines - AFTER_NAME, c.count);
 }
 
 // The given slot from p on, its line number behind a head or behind none; and the place after it.
@@ -103,9 +98,8 @@ fn write_back(form: &[u8], c: Change, out: &mut [u8], p: usize)
     requires { Fits form.now c × (p + length (back form.now c) ≤ length out.old) }
     ensures { out.new ≡ put out.old p (back form.now c) }
 {
-    let to = c.to;
     let rest = write_head(out, p, form, c.rest);
-    slots::copy_long(out, rest, &form[to..]);
+    slots::copy_long(out, rest, &form[c.to..]);
 }
 
 // ── the two changes ──

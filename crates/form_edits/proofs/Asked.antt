@@ -2,26 +2,26 @@
 use mathlib.Core.Path.{◌≡◌, refl, ◌∙◌, sym, ap, subst}
 use mathlib.Core.List.{List, [], ◌∷◌, ◌++◌, append_assoc}
 use mathlib.Core.Bool.{Bool, true, false, cond}
-use Prim.Native.Nat.{ℕ, ◌*◌, ◌<◌, ◌≤◌}
+use Prim.Native.Nat.{ℕ, ◌<◌, ◌≤◌}
 use native.Mathlib.Omega.{arith}
 use native.Mathlib.Decide.{dec_le}
 use borrow.Author.Tests.{ltb-true, lt-ltb, le-ltb, eq-eqb, ne_eqb}
 use lib.Dec.{eqb, ltb}
 use lib.ListN.{length, drop, length-append}
 use Rattle.names.specs.Ordering.{Row, compare_rows}
-use Rattle.std.specs.Ordering.{is_eq}
 use Rattle.names.specs.Names.{is_name}
 use Rattle.numbers.specs.Bytes.{Bytes, Octets}
 use Rattle.slots.specs.declared.Span.{Span}
-use Rattle.slots.specs.Tuples.{row_at, Within}
+use Rattle.slots.specs.Tuples.{row_at}
 use Rattle.slots.specs.Slots.{name_of}
 use Rattle.numbers.proofs.Bools.{yes_no}
 use Rattle.runs.specs.Runs.{onward, is_next}
-use Rattle.fields.specs.Fields.{field_head, longest_content}
-use Rattle.groups.specs.Groups.{Group, size, line_size}
+use Rattle.fields.specs.Fields.{field_head}
+use Rattle.groups.specs.Groups.{Group, size}
 use Rattle.groups.specs.Forms.{form_bytes, groups_in, group_stands}
 use Rattle.forms.specs.declared.Block.{Block}
-use Rattle.forms.specs.Blocks.{no_block, block_at, end_of, not_above, Stood as Stands}
+use Rattle.forms.specs.Blocks.{no_block, block_here, end_of, Stood as Stands}
+use Rattle.std.specs.Ordering.{is_eq, is_le}
 use Rattle.forms.proofs.BlockAt.{stood}
 use Rattle.form_edits.specs.declared.Met.{Met}
 use Rattle.form_edits.specs.declared.Met.TheVariants.{Here, Inside, After}
@@ -91,22 +91,30 @@ module _ (s slot : Bytes) (k : Octets s) (so : Octets slot) (name : Span) (e : E
       go (none c a) = absurd (let z = ap (λ (b : Block). b.count) (nothing (le-ltb 1 (place_in s x).groups (omega arith))) in omega arith)
         where
           nothing : ltb 1 (place_in s x).groups ≡ false → preceded_in s x ≡ no_block
-          nothing q = ap (λ (b : Bool). cond b (block_at s (place_in s x).before) no_block) q
+          nothing q = ap (λ (b : Bool). cond b (block_here s (place_in s x).before) no_block) q
       go (some fs g hs q r a) = by r.before
         where
           by : Preceded fs (place_in s x).before → Bounds s (preceded_in s x)
           by (first z) =
               let c = r.count in
               let m = ap length z in
-              let n : preceded_in s x ≡ no_block = ap (λ (b : Bool). cond b (block_at s (place_in s x).before) no_block) (le-ltb 1 (place_in s x).groups (omega arith)) in
+              let n : preceded_in s x ≡ no_block = ap (λ (b : Bool). cond b (block_here s (place_in s x).before) no_block) (le-ltb 1 (place_in s x).groups (omega arith)) in
               absurd (let w = ap (λ (b : Block). b.count) n in omega arith)
           by (second es d z n) =
               let p : groups_in s ≡ es ++ (d ∷ g ∷ hs) = q ∙ ap (λ (y : List Group). y ++ (g ∷ hs)) z ∙ append_assoc es (d ∷ []) (g ∷ hs) in
               let c = r.count in
               let m = ap length z ∙ length-append es (d ∷ []) in
-              let u : preceded_in s x ≡ block_at s (length (form_bytes es)) = ap (λ (b : Bool). cond b (block_at s (place_in s x).before) no_block) (lt-ltb 1 (place_in s x).groups (omega arith)) ∙ ap (block_at s) n in
+              let u : preceded_in s x ≡ block_here s (length (form_bytes es)) = ap (λ (b : Bool). cond b (block_here s (place_in s x).before) no_block) (lt-ltb 1 (place_in s x).groups (omega arith)) ∙ ap (block_here s) n in
               subst (Bounds s) (sym u)
               (laid_bounds es d (g ∷ hs) (laid s k es d (g ∷ hs) (form_is s slot k so name e es d (g ∷ hs) p) (is_group_lem s slot k so name e es d (g ∷ hs) p)) (few s slot k so name e es d (g ∷ hs) p))
+
+  -- which lies within the form, and has no more slots than have room in a field
+  pub preceded_stood : Stands s (preceded_in s x)
+  preceded_stood = go (ltb 1 (place_in s x).groups) refl
+    where
+      go : (b : Bool) → ltb 1 (place_in s x).groups ≡ b → Stands s (cond b (block_here s (place_in s x).before) no_block)
+      go true t = stood s (place_in s x).before (preceded_stands t).1 k
+      go false t = (omega arith, omega arith, omega arith)
 
   module _ (b : Block) (v : Found s slot k so name e b) where
     pub block_within : end_of b ≤ length s
@@ -117,12 +125,12 @@ module _ (s slot : Bytes) (k : Octets s) (so : Octets slot) (name : Span) (e : E
         go (at_group fs g hs q l r a) = l.stood.1
 
     -- a group, not above the name
-    pub block_low : 1 ≤ b.name.count → (is_name (row_at s b.name) ≡ true) × (not_above (compare_rows (row_at s b.name) x) ≡ true)
+    pub block_low : 1 ≤ b.name.count → (is_name (row_at s b.name) ≡ true) × (is_le (compare_rows (row_at s b.name) x) ≡ true)
     block_low t = go v
       where
-        go : Found s slot k so name e b → (is_name (row_at s b.name) ≡ true) × (not_above (compare_rows (row_at s b.name) x) ≡ true)
+        go : Found s slot k so name e b → (is_name (row_at s b.name) ≡ true) × (is_le (compare_rows (row_at s b.name) x) ≡ true)
         go (before_all q n a) = absurd (let z = ap (λ (c : Block). c.name.count) n in omega arith)
-        go (at_group fs g hs q l r a) = (ap is_name l.first ∙ l.named, ap (λ (y : Row). not_above (compare_rows y x)) l.first ∙ r.low)
+        go (at_group fs g hs q l r a) = (ap is_name l.first ∙ l.named, ap (λ (y : Row). is_le (compare_rows y x)) l.first ∙ r.low)
 
     -- where the name was met in it
     pub met_bounds : (m : Met) → met_in s b x ≡ m → ¬ (m ≡ After false) → Bounds s b
@@ -189,14 +197,3 @@ goes_some s b n t = elim (dec_le 1 b.count) [
     either : (c : Bool) → cond c false false ≡ false
     either true = refl
     either false = refl
-
--- the block of the group before lies within the form, and has no more slots than have room in a field
-pub preceded_stood : (s slot : Bytes) → Octets s → Within s (preceded_in s (name_of slot)).name × (end_of (preceded_in s (name_of slot)) ≤ length s) × (line_size * (preceded_in s (name_of slot)).count ≤ longest_content)
-preceded_stood s slot k = go (ltb 1 (place_in s (name_of slot)).groups)
-  where
-    p : ℕ
-    p = (place_in s (name_of slot)).before
-
-    go : (b : Bool) → Stands s (cond b (block_at s p) no_block)
-    go true = stood s p k
-    go false = (omega arith, omega arith, omega arith)

@@ -22,8 +22,8 @@ use Rattle.groups.proofs.LineBytes.{length_lines_at, lines_length, here_lines, l
 use Rattle.groups.proofs.GroupBytes.{stands_back, group_back, after_back}
 use Rattle.groups.proofs.FormInverse.{form_none, form_more, form_append}
 use Rattle.forms.specs.declared.Block.{Block}
-use Rattle.forms.specs.Blocks.{block_at, end_of, Stood, after_name, sizes_bytes}
-use Rattle.forms.proofs.BlockAt.{block_group, block_end, block_after, block_start, stood}
+use Rattle.forms.specs.Blocks.{block_here, end_of, Stood, after_name, sizes_bytes}
+use Rattle.forms.proofs.BlockAt.{block_group, block_end, block_after, stood}
 use Rattle.forms.proofs.GroupsInBlocks.{group_named}
 use Rattle.forms.proofs.HeadBytes.{sizes_size, head_lines}
 use Rattle.form_changes.specs.declared.Change.{Change}
@@ -96,9 +96,9 @@ module _ (s : Bytes) (k : Octets s) (fs : List Group) (g : Group) (hs : List Gro
       let l = lines_length g.lines in
       ap length (head_lines g) ∙ length-append (a ++ sizes_bytes (size g)) (line_bytes g.lines) ∙ ap (λ (n : ℕ). n + length (line_bytes g.lines)) (length-append a (sizes_bytes (size g))) ∙ omega arith
 
-  pub laid : Laid s fs g hs (block_at s (length (form_bytes fs)))
+  pub laid : Laid s fs g hs (block_here s (length (form_bytes fs)))
   laid =
-      let b = block_at s p in
+      let b = block_here s p in
       let q = block_group s p stands_there ∙ is_group_lem in
       let first : row_at s b.name ≡ g.first = ap (λ (h : Group). h.first) q in
       let lines : lines_at s b.lines b.count ≡ g.lines = ap (λ (h : Group). h.lines) q in
@@ -111,14 +111,14 @@ module _ (s : Bytes) (k : Octets s) (fs : List Group) (g : Group) (hs : List Gro
       let n-long = fields_length in
       let name-end : length (form_bytes fs ++ field_of_name first_tag g.first) ≡ b.lines - after_name = length-append (form_bytes fs) (field_of_name first_tag g.first) ∙ omega arith in
       record {
-        start = block_start s p stands_there;
+        start = refl;
         first = first;
         lines = lines;
         count = count;
         long = let l = w.long in omega arith;
         end = ends ∙ sym (ap length (one_more fs g) ∙ length-append (form_bytes fs) (group_bytes g));
         behind = let q = block_end s p stands_there in omega arith;
-        stood = stood s p k;
+        stood = stood s p stands_there k;
         deep = n.deep;
         short = n.short;
         named = is_named;

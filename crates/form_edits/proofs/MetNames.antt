@@ -20,7 +20,7 @@ use Rattle.runs.specs.declared.Stand.{Stand}
 use Rattle.runs.specs.declared.Stand.TheVariants.{Below, Before, At, Beyond, Above}
 use Rattle.runs.proofs.RunLaws.{against, says, compared}
 use Rattle.groups.specs.Groups.{Group, size, name_after}
-use Rattle.forms.specs.Blocks.{not_above}
+use Rattle.std.specs.Ordering.{is_le}
 use Rattle.form_edits.specs.declared.Met.TheVariants.{Here, Inside, After}
 use Rattle.form_edits.specs.Choices.{met_by}
 
@@ -67,13 +67,13 @@ pub record AboveAll (g : Group) (x : Row) (joins : Bool) : Type 0 where
   pub next : joins ≡ true → name_after g ≡ x
   pub other : joins ≡ false → ¬ (name_after g ≡ x)
 
-module _ (g : Group) (x : Row) (named : is_name g.first ≡ true) (low : not_above (compare_rows g.first x) ≡ true) where
+module _ (g : Group) (x : Row) (named : is_name g.first ≡ true) (low : is_le (compare_rows g.first x) ≡ true) where
   compares : {s : Stand} → beside_of g.first x ≡ s → (k : ℕ) → compare_rows (onward k g.first) x ≡ against s k
   compares e k = compared g.first x named k ∙ ap (λ (s : Stand). against s k) e
 
   -- it is not below
   not_below : {s : Stand} → beside_of g.first x ≡ s → ¬ (against s 0 ≡ Greater)
-  not_below e m = yes_no low (ap not_above (compares e 0 ∙ m))
+  not_below e m = yes_no low (ap is_le (compares e 0 ∙ m))
 
   differs : {o : Ordering} → compare_rows (name_after g) x ≡ o → ¬ (o ≡ Equal) → ¬ (name_after g ≡ x)
   differs c n e = n (sym c ∙ ap (λ (y : Row). compare_rows y x) e ∙ row_same x)

@@ -14,7 +14,6 @@ use lib.IntN.{pos}
 use lib.ListN.{length, take, length-append}
 use Rattle.std.specs.declared.cmp.Ordering.{Ordering}
 use Rattle.names.specs.Ordering.{Row, compare_rows, ◌<ⁿ◌}
-use Rattle.std.specs.Ordering.{is_eq}
 use Rattle.names.specs.Names.{is_name}
 use Rattle.names.proofs.Laws.{Tri, below as is_below, level as is_level, above as is_above, tri_n}
 use Rattle.numbers.specs.Bytes.{Bytes, at32, signed}
@@ -31,7 +30,7 @@ use Rattle.runs.proofs.RunNames.{onward_length, last_offset, name_count, name_at
 use Rattle.runs.proofs.RunLaws.{says, against, compared}
 use Rattle.runs.proofs.ByOffsets.{reaching}
 use Rattle.runs.proofs.SameButLast.{beside_same, beside_other}
-use Rattle.forms.specs.Blocks.{not_above}
+use Rattle.std.specs.Ordering.{is_eq, is_le}
 
 pub other_length : (k : ℕ) (a b : Row) → ¬ (length a ≡ length b) → is_eq (compare_rows (onward k a) b) ≡ false
 other_length k a b n = go (compare_rows (onward k a) b) (tri_n (onward k a) b)
@@ -43,23 +42,23 @@ other_length k a b n = go (compare_rows (onward k a) b) (tri_n (onward k a) b)
 
 -- ── not below the first ──
 
-no_shorter : (a b : Row) {r : Stand} → Says a b r → not_above (against r 0) ≡ true → length b < length a → r ≡ Above
+no_shorter : (a b : Row) {r : Stand} → Says a b r → is_le (against r 0) ≡ true → length b < length a → r ≡ Above
 no_shorter a b (below f n) e h = yes_no e refl
 no_shorter a b (before f) e h = yes_no e refl
 no_shorter a b (at {i} f) e h = absurd (omega (arith, ap length f, onward_length i a))
 no_shorter a b (beyond {i} t u f) e h = absurd (omega (arith, ap length f, length-append (onward i a) (t ∷ u), onward_length i a))
 no_shorter a b (above f) e h = refl
 
-not_below : {r : Stand} → not_above (against r 0) ≡ true → (r ≡ Above) ⊎ (r ≡ Below) → r ≡ Above
+not_below : {r : Stand} → is_le (against r 0) ≡ true → (r ≡ Above) ⊎ (r ≡ Below) → r ≡ Above
 not_below e (inl f) = f
-not_below e (inr f) = yes_no (ap (λ (r : Stand). not_above (against r 0)) (sym f) ∙ e) refl
+not_below e (inr f) = yes_no (ap (λ (r : Stand). is_le (against r 0)) (sym f) ∙ e) refl
 
-not_under : (c : Bool) → not_above (against (cond c Before Below) 0) ≡ true → ⊥
+not_under : (c : Bool) → is_le (against (cond c Before Below) 0) ≡ true → ⊥
 not_under true e = yes_no e refl
 not_under false e = yes_no e refl
 
 -- the second offset is no lower
-no_lower : (x v : ℕ) (ends : Bool) → not_above (against (by_offsets (pos x) (signed v) ends) 0) ≡ true → (signed v ≡ pos v) × (x ≤ v)
+no_lower : (x v : ℕ) (ends : Bool) → is_le (against (by_offsets (pos x) (signed v) ends) 0) ≡ true → (signed v ≡ pos v) × (x ≤ v)
 no_lower x v ends e = elim (dec_lt v 2147483648) [
   | yes h ↦
       let f = signed_pos v h in
@@ -71,7 +70,7 @@ no_lower x v ends e = elim (dec_lt v 2147483648) [
 ]
 
 -- n tuples from p on in s, the first name of a run, and k from q on in t
-module _ (s : Bytes) (p n : ℕ) (t : Bytes) (q k : ℕ) (e : is_name (tuples_at s p n) ≡ true) (f : not_above (compare_rows (tuples_at s p n) (tuples_at t q k)) ≡ true) where
+module _ (s : Bytes) (p n : ℕ) (t : Bytes) (q k : ℕ) (e : is_name (tuples_at s p n) ≡ true) (f : is_le (compare_rows (tuples_at s p n) (tuples_at t q k)) ≡ true) where
   abbrev a : Row
   a = tuples_at s p n
 
@@ -84,8 +83,8 @@ module _ (s : Bytes) (p n : ℕ) (t : Bytes) (q k : ℕ) (e : is_name (tuples_at
   abbrev y : ℕ
   y = at32 t (q + (tuple_size * n - 4))
 
-  no_higher : not_above (against (beside_of a b) 0) ≡ true
-  no_higher = ap not_above (sym (compared a b e 0)) ∙ f
+  no_higher : is_le (against (beside_of a b) 0) ≡ true
+  no_higher = ap is_le (sym (compared a b e 0)) ∙ f
 
   pub shorter : k < n → beside_of a b ≡ Above
   shorter h = no_shorter a b (says a b e) no_higher (omega (arith, length_tuples_at s p n, length_tuples_at t q k))
@@ -106,7 +105,7 @@ module _ (s : Bytes) (p n : ℕ) (t : Bytes) (q k : ℕ) (e : is_name (tuples_at
       let second : last_offset (tuples_at t q n) ≡ signed y = last_at t q n c ∙ ap (λ (r : ℕ). signed (at32 t r)) j in
       let by : beside_of a b ≡ by_offsets (pos x) (signed y) (eqb k n) =
       ap (beside_of a) (sym (split_tuples_at t q k n h)) ∙ beside_same a (tuples_at t q n) rest g ∙ (λ z. by_offsets (first z) (second z) (ended z)) in
-      let low = no_lower x y (eqb k n) (ap (λ (r : Stand). not_above (against r 0)) (sym by) ∙ no_higher) in
+      let low = no_lower x y (eqb k n) (ap (λ (r : Stand). is_le (against r 0)) (sym by) ∙ no_higher) in
       (low.1, by ∙ ap (λ z. by_offsets (pos x) z (eqb k n)) low.0 ∙ reaching y x (eqb k n) low.1)
     where
       ended : is_empty (tuples_at t (q + tuple_size * n) (k - n)) ≡ eqb k n

@@ -8,31 +8,32 @@ use mathlib.Core.Bool.{Bool, true, false, not}
 use Prim.Native.Nat.{ℕ, ◌<◌, ◌≤◌}
 use native.Mathlib.Omega.{arith}
 use borrow.Author.Tests.{lt-ltb, le-ltb}
-use lib.Dec.{ltb, leb}
+use lib.Dec.{ltb}
 use lib.ListN.{length}
-use Rattle.names.specs.Ordering.{Row, rising}
+use Rattle.names.specs.Ordering.{Row}
 use Rattle.numbers.specs.Bytes.{Bytes, Octets}
 use Rattle.slots.specs.declared.Span.{Span}
 use Rattle.slots.specs.Slots.{Slot, name_of, slot_of, keeps_slot}
 use Rattle.answers.specs.declared.Refusal.{Refusal}
-use Rattle.answers.specs.declared.Refusal.TheVariants.{BadLayout, NotRising, Present, Absent, Full, Malformed}
-use Rattle.answers.specs.Answers.{Test, ◌else◌, ask, in_order, refuse, write, outcome}
+use Rattle.answers.specs.declared.Refusal.TheVariants.{BadLayout, Present, Absent, Full}
+use Rattle.answers.specs.Answers.{Test, ◌else◌, in_order, refuse, write, outcome}
 use Rattle.answers.specs.Laws.{Passed, FirstFails, here, later}
-use Rattle.answers.proofs.Refusals.{goes_on_lem, refuses, failed}
+use Rattle.answers.proofs.Refusals.{reached, refuses, failed}
 use Rattle.pages.specs.Pages.{max_slots, name_in}
 use Rattle.pages.specs.Places.{has}
 use Rattle.fields.specs.Fields.{single}
 use Rattle.edits.specs.Edits.{placed, without, insert_outcome, remove_outcome}
-use Rattle.groups.specs.Forms.{groups_in, slots_of_form, keeps_form}
+use Rattle.groups.specs.Forms.{slots_of_form}
 use Rattle.groups.specs.Calls.{form_pieces, form_tests, page_of, ample, regroup, insert_form_outcome, remove_form_outcome}
 use Rattle.groups.proofs.FormEdits.{insert_tests, remove_tests, insert_slots, remove_slots}
 use Rattle.forms.specs.declared.Looked.{Looked}
-use Rattle.forms.specs.Blocks.{nowhere, sought_from, no_form, looked}
+use Rattle.forms.specs.Blocks.{all_told}
 use Rattle.form_changes.specs.declared.Change.{Change}
 use Rattle.form_changes.specs.Changes.{given, changed}
+use Rattle.std.specs.declared.result.Result.{Result}
 use Rattle.std.specs.declared.result.Result.TheVariants.{Ok, Err}
 use Rattle.form_edits.specs.declared.Insertion.{Insertion}
-use Rattle.form_edits.specs.Edits.{looked_tests, place_in, Edited, Inserts}
+use Rattle.form_edits.specs.Edits.{edit_tests, Edited, Inserts}
 use Rattle.form_edits.proofs.Chosen.{Removes}
 
 module _ (s slot : Bytes) (so : Octets slot) (name : Span) (e : Edited s slot name) (room : ℕ) where
@@ -86,51 +87,25 @@ passed_both : (ts us : List Test) → Passed (ts ++ us) → Passed ts × Passed 
 passed_both [] us p = (tt, p)
 passed_both (t ∷ ts) us (e, p) = let q = passed_both ts us p in ((e, q.0), q.1)
 
--- "15, 2, 11, 1 (slot)"
-abbrev edit_tests : Bytes → Bytes → List Test
-edit_tests s slot = form_tests s ++ (keeps_slot slot else BadLayout ∷ [])
-
--- as one look at the form tells them
-looked_tests_lem : {A : Type 0} (s slot : Bytes) (x : Row) (refusing : Refusal → A) (after : A)
-    → in_order (looked_tests (looked s x) slot) refusing after ≡ in_order (edit_tests s slot) refusing after
-unfolding looked
-looked_tests_lem {A} s slot x refusing after = go (keeps_form s) refl
-  where
-    good : Looked
-    good = record {
-      ok = true;
-      rises = rising (map name_in (slots_of_form s));
-      slots = length (slots_of_form s);
-      place = sought_from x 0 nowhere (groups_in s);
-    }
-
-    go : (b : Bool) → keeps_form s ≡ b → in_order (looked_tests (ask b no_form good) slot) refusing after
-        ≡ in_order (b else Malformed ∷ rising (map name_in (slots_of_form s)) else NotRising ∷ leb (length (slots_of_form s)) max_slots else Full ∷ keeps_slot slot else BadLayout ∷ []) refusing after
-    go true e = refl
-    go false e = refl
-
 module _ (s slot : Bytes) (x : Row) where
-  apart : (r : Refusal) → Err r ≡ (Ok tt) → ⊥
+  apart : (r : Refusal) {l : Looked} → ◌≡◌ {A = Result Looked Refusal} (Err r) (Ok l) → ⊥
   apart r e = let z : ◌≡◌ {A = ℕ} 0 1 = cc in omega arith
 
-  told : in_order (edit_tests s slot) Err (Ok tt) ≡ in_order (looked_tests (looked s x) slot) Err (Ok tt)
-  told = sym (looked_tests_lem s slot x Err (Ok tt))
-
-  pub all_passed : in_order (looked_tests (looked s x) slot) Err (Ok tt) ≡ (Ok tt) → Passed (form_tests s) × (keeps_slot slot ≡ true)
-  all_passed e =
-      let p = passed_both (form_tests s) (keeps_slot slot else BadLayout ∷ []) (goes_on_lem Err (Ok tt) apart (edit_tests s slot) (told ∙ e)) in
-      (p.0, p.1.0)
-
   -- where all pass the look has found how many slots there are, and where the name would stand
-  pub looked_is : keeps_form s ≡ true → ((looked s x).slots ≡ length (slots_of_form s)) × ((looked s x).place ≡ place_in s x)
-  unfolding looked
-  looked_is e = (ap (λ (b : Bool). (ask b no_form (record { ok = true; rises = rising (map name_in (slots_of_form s)); slots = length (slots_of_form s); place = sought_from x 0 nowhere (groups_in s) })).slots) e, ap (λ (b : Bool). (ask b no_form (record { ok = true; rises = rising (map name_in (slots_of_form s)); slots = length (slots_of_form s); place = sought_from x 0 nowhere (groups_in s) })).place) e)
+  pub all_passed : {l : Looked} → in_order (edit_tests s slot) Err (Ok (all_told s x)) ≡ Ok l
+      → Passed (form_tests s) × (keeps_slot slot ≡ true) × (l ≡ all_told s x)
+  all_passed {l} e =
+      let q = reached (λ (r : Result Looked Refusal). r ≡ Ok l) Err (Ok (all_told s x)) (λ r f. apart r f) (edit_tests s slot) e in
+      let p = passed_both (form_tests s) (keeps_slot slot else BadLayout ∷ []) q.0 in
+      let z : ◌≡◌ {A = Result Looked Refusal} (Ok (all_told s x)) (Ok l) = q.1 in
+      let y : all_told s x ≡ l = cc in
+      (p.0, p.1.0, sym y)
 
-  module _ (so : Octets slot) (room : ℕ) (r : Refusal) (e : in_order (looked_tests (looked s x) slot) Err (Ok tt) ≡ Err r) where
+  module _ (so : Octets slot) (room : ℕ) (r : Refusal) (e : in_order (edit_tests s slot) Err (Ok (all_told s x)) ≡ Err r) where
     fails : FirstFails r (form_tests s) ⊎ (Passed (form_tests s) × FirstFails r (keeps_slot slot else BadLayout ∷ []))
     fails =
         fails_in (form_tests s) (keeps_slot slot else BadLayout ∷ [])
-        (refuses Err (Ok tt) apart (λ q r f. cc) (edit_tests s slot) (told ∙ e))
+        (refuses Err (Ok (all_told s x)) (λ q f. apart q f) (λ q r f. cc) (edit_tests s slot) e)
 
     pub insert_refused : insert_form_outcome s slot room ≡ refuse r
     unfolding insert_form_outcome

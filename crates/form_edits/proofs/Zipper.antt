@@ -15,7 +15,8 @@ use Rattle.groups.specs.Groups.{Group}
 use Rattle.groups.specs.Forms.{group_bytes, form_bytes}
 use Rattle.groups.proofs.FormInverse.{form_none, form_more, form_append}
 use Rattle.forms.specs.declared.Place.{Place}
-use Rattle.forms.specs.Blocks.{not_above, nowhere, sought, sought_from}
+use Rattle.forms.specs.Blocks.{nowhere, sought, sought_from}
+use Rattle.std.specs.Ordering.{is_le}
 
 -- the first of the groups, where there is one, begins above x
 abbrev pub FirstAbove : Row → List Group → Type 0
@@ -32,7 +33,7 @@ pub record Reached (x : Row) (fs : List Group) (g : Group) (p : Place) : Type 0 
   pub count : p.groups ≡ length fs + 1
   pub here : p.here ≡ length (form_bytes fs)
   pub before : Preceded fs p.before
-  pub low : not_above (compare_rows g.first x) ≡ true
+  pub low : is_le (compare_rows g.first x) ≡ true
 
 pub data Divided (x : Row) (gs : List Group) (p : Place) : Type 0 where
   none : p.groups ≡ 0 → FirstAbove x gs → Divided x gs p
@@ -43,10 +44,10 @@ data Passing (x : Row) (fs : List Group) (p : Place) : Type 0 where
   start : fs ≡ [] → p.groups ≡ 0 → Passing x fs p
   at : (es : List Group) (g : Group) → fs ≡ es ++ (g ∷ []) → Reached x es g p → Passing x fs p
 
-is_above_lem : (a x : Row) → not_above (compare_rows a x) ≡ false → x <ⁿ a
+is_above_lem : (a x : Row) → is_le (compare_rows a x) ≡ false → x <ⁿ a
 is_above_lem a x e = more_row a x (go (compare_rows a x) e)
   where
-    go : (o : Ordering) → not_above o ≡ false → o ≡ Greater
+    go : (o : Ordering) → is_le o ≡ false → o ≡ Greater
     go Less e = yes_no refl e
     go Equal e = yes_no refl e
     go Greater e = refl
@@ -64,7 +65,7 @@ still x q p (g ∷ gs) e =
     let s : sought x q g.first p ≡ p = go p.sought e in
     ap (λ (r : Place). sought_from x (q + length (group_bytes g)) r gs) s ∙ still x (q + length (group_bytes g)) p gs e
   where
-    go : (b : Bool) → b ≡ false → cond b (cond (not_above (compare_rows g.first x)) (on p q) (off p)) p ≡ p
+    go : (b : Bool) → b ≡ false → cond b (cond (is_le (compare_rows g.first x)) (on p q) (off p)) p ≡ p
     go true e = yes_no refl e
     go false e = refl
 
@@ -79,7 +80,7 @@ module _ (x : Row) where
       let one = form_more g [] ∙ ap (λ (s : List ℕ). group_bytes g ++ s) form_none ∙ append-nil (group_bytes g) in
       sym (ap length (form_append fs (g ∷ []) ∙ ap (λ (s : List ℕ). form_bytes fs ++ s) one) ∙ length-append (form_bytes fs) (group_bytes g))
 
-  step : (fs : List Group) (g : Group) (p : Place) → Passing x fs p → not_above (compare_rows g.first x) ≡ true
+  step : (fs : List Group) (g : Group) (p : Place) → Passing x fs p → is_le (compare_rows g.first x) ≡ true
       → Passing x (fs ++ (g ∷ [])) (on p (length (form_bytes fs)))
   step fs g p (start e n) l = at fs g refl (record {
     count = let z = ap length e in omega arith;
@@ -96,20 +97,20 @@ module _ (x : Row) where
 
   along : (fs gs : List Group) (q : ℕ) (p : Place) → q ≡ length (form_bytes fs) → p.sought ≡ true → Passing x fs p → Divided x (fs ++ gs) (sought_from x q p gs)
   along fs [] q p e s v = ended fs [] p v tt
-  along fs (g ∷ gs) q p e s v = go (not_above (compare_rows g.first x)) refl (λ w. along (fs ++ (g ∷ [])) gs (q + length (group_bytes g)) (on p q) (ap (λ (n : ℕ). n + length (group_bytes g)) e ∙ longer fs g) refl w)
+  along fs (g ∷ gs) q p e s v = go (is_le (compare_rows g.first x)) refl (λ w. along (fs ++ (g ∷ [])) gs (q + length (group_bytes g)) (on p q) (ap (λ (n : ℕ). n + length (group_bytes g)) e ∙ longer fs g) refl w)
     where
       all : (fs ++ (g ∷ [])) ++ gs ≡ fs ++ (g ∷ gs)
       all = append_assoc fs (g ∷ []) gs
 
-      is : (b : Bool) → not_above (compare_rows g.first x) ≡ b → sought x q g.first p ≡ cond b (on p q) (off p)
-      is b f = ap (λ (c : Bool). cond c (cond (not_above (compare_rows g.first x)) (on p q) (off p)) p) s ∙ ap (λ (c : Bool). cond c (on p q) (off p)) f
+      is : (b : Bool) → is_le (compare_rows g.first x) ≡ b → sought x q g.first p ≡ cond b (on p q) (off p)
+      is b f = ap (λ (c : Bool). cond c (cond (is_le (compare_rows g.first x)) (on p q) (off p)) p) s ∙ ap (λ (c : Bool). cond c (on p q) (off p)) f
 
       kept : Passing x fs p → Passing x fs (off p)
       kept (start a n) = start a n
       kept (at es h a r) = at es h a (record { count = r.count; here = r.here; before = r.before; low = r.low })
 
       go :
-          (b : Bool) → not_above (compare_rows g.first x) ≡ b →
+          (b : Bool) → is_le (compare_rows g.first x) ≡ b →
           (Passing x (fs ++ (g ∷ [])) (on p q) → Divided x ((fs ++ (g ∷ [])) ++ gs) (sought_from x (q + length (group_bytes g)) (on p q) gs)) →
           Divided x (fs ++ (g ∷ gs)) (sought_from x q p (g ∷ gs))
       go true f k =

@@ -13,7 +13,7 @@ use Rattle.runs.specs.declared.Stand.{Stand}
 use Rattle.runs.specs.declared.Stand.TheVariants.{Below, Before, At, Beyond, Above}
 use Rattle.groups.specs.Groups.{line_size}
 use Rattle.forms.specs.declared.Block.{Block}
-use Rattle.forms.specs.Blocks.{no_block, block_at, end_of}
+use Rattle.forms.specs.Blocks.{no_block, block_here, end_of}
 use Rattle.form_changes.specs.declared.Head.{Head}
 use Rattle.form_changes.specs.declared.Change.{Change}
 use Rattle.form_edits.specs.declared.Insertion.{Insertion}
@@ -42,7 +42,7 @@ met_in s b x = cond (eqb b.name.count 0) (After false) (met_by (beside_of (row_a
 
 -- the group at p, where one is found
 abbrev pub block_by : Bytes → Bool → ℕ → Block
-block_by s found p = cond found (block_at s p) no_block
+block_by s found p = cond found (block_here s p) no_block
 
 -- where the groups after it begin
 abbrev pub after_block : Block → ℕ

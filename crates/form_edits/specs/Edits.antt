@@ -1,14 +1,14 @@
 -- What an edit of a form has found when it comes to the change; 02 does not speak of it.
-use Rattle.std.specs.Prelude.{ℕ, ◌≡◌, List, [], ◌∷◌, map, true, false, length, ltb, leb}
+use Rattle.std.specs.Prelude.{ℕ, ◌≡◌, List, [], ◌∷◌, ◌++◌, map, true, false, length, ltb}
 use Rattle.names.specs.Ordering.{Row}
 use Rattle.numbers.specs.Bytes.{Bytes}
 use Rattle.slots.specs.declared.Span.{Span}
 use Rattle.slots.specs.Tuples.{row_at, Lies}
 use Rattle.slots.specs.Slots.{name_of, slot_of, keeps_slot}
-use Rattle.answers.specs.declared.Refusal.TheVariants.{BadLayout, NotRising, Full, Malformed}
+use Rattle.answers.specs.declared.Refusal.TheVariants.{BadLayout}
 use Rattle.answers.specs.Answers.{Test, ◌else◌}
 use Rattle.answers.specs.Laws.{Passed}
-use Rattle.pages.specs.Pages.{max_slots, name_in}
+use Rattle.pages.specs.Pages.{name_in}
 use Rattle.pages.specs.Places.{has}
 use Rattle.edits.specs.Edits.{placed}
 use Rattle.groups.specs.Groups.{grouped}
@@ -16,17 +16,15 @@ use Rattle.groups.specs.Forms.{form_bytes, groups_in, slots_of_form}
 use Rattle.groups.specs.Calls.{form_tests}
 use Rattle.forms.specs.declared.Block.{Block}
 use Rattle.forms.specs.declared.Place.{Place}
-use Rattle.forms.specs.declared.Looked.{Looked}
 use Rattle.forms.specs.Blocks.{end_of, nowhere, sought_from}
 use Rattle.form_changes.specs.declared.Change.{Change}
 use Rattle.form_changes.specs.Changes.{Fits, Given, given, changed}
 use Rattle.form_edits.specs.declared.Insertion.{Insertion}
 use Rattle.form_edits.specs.Choices.{block_by, goes_on, taken_by}
 
--- "15, 2, 11, 1 (slot)", as one look at the form tells them
-abbrev pub looked_tests : Looked → Bytes → List Test
-looked_tests l slot =
-    l.ok else Malformed ∷ l.rises else NotRising ∷ leb l.slots max_slots else Full ∷ keeps_slot slot else BadLayout ∷ []
+-- "15, 2, 11, 1 (slot)": how both edits begin
+abbrev pub edit_tests : Bytes → Bytes → List Test
+edit_tests s slot = form_tests s ++ (keeps_slot slot else BadLayout ∷ [])
 
 -- all of these have passed, and the slot's name stands at `name`
 pub record Edited (s slot : Bytes) (name : Span) : Type 0 where

@@ -13,9 +13,10 @@ ghost use Rattle.answers.specs.Answers.{in_order, leaves};
 ghost use Rattle.fields.specs.Fields.{field_head};
 ghost use Rattle.groups.specs.Forms.{group_stands, slots_of_form};
 ghost use Rattle.groups.specs.Calls.{insert_form_outcome, remove_form_outcome};
-ghost use Rattle.forms.specs.Blocks.{end_of, Stood, not_above};
+ghost use Rattle.std.specs.Ordering.{is_le};
+ghost use Rattle.forms.specs.Blocks.{end_of, Stood, all_told};
 ghost use Rattle.form_edits.specs.Choices.{met_by, is_here, met_in, block_by, after_block, precedes_in, goes_on, head_of, split_by, bridge_by, append_by, prepend_by, alone_at, between_by, part_from, part_by, close_by, vanish_by};
-ghost use Rattle.form_edits.specs.Edits.{place_in, reached_in, preceded_in, taken_in, looked_tests, Edited, Inserts};
+ghost use Rattle.form_edits.specs.Edits.{place_in, reached_in, preceded_in, taken_in, edit_tests, Edited, Inserts};
 ghost use Rattle.runs.specs.declared.Stand.TheVariants.{At, Beyond};
 
 use answers::{Answer, Refusal};
@@ -41,7 +42,7 @@ fn name_in(slot: &[u8]) -> Span
     Span { at: HEAD, count }
 }
 
-// The group at a place, or none.
+// The group at a place, or none: a group of no slots, and no Option, since whoever asks for it asks for its slots.
 fn block_by(form: &[u8], found: bool, at: usize) -> Block
     requires { found ≡ true → (at ≤ length form.now) × (group_stands (drop at form.now) ≡ true) }
     ensures value { result ≡ block_by form.now found at }
@@ -80,20 +81,21 @@ fn met_after(steps: usize, count: usize, ends: bool) -> Met
 {
     if ends {
         if steps < count {
-            return Met::Here(steps);
+            Met::Here(steps)
+        } else {
+            Met::After(steps == count)
         }
-        return Met::After(steps == count);
+    } else if steps + 1 < count {
+        Met::Inside(steps + 1)
+    } else {
+        Met::After(false)
     }
-    if steps + 1 < count {
-        return Met::Inside(steps + 1);
-    }
-    Met::After(false)
 }
 
 // Where there is no group the name goes on with none.
 fn meet(form: &[u8], block: Block, slot: &[u8], name: Span) -> Met
     requires within { Within form.now block.name × Lies slot.now name × (is_name (row_at slot.now name) ≡ true) }
-    requires name_value { 1 ≤ block.name.count → (is_name (row_at form.now block.name) ≡ true) × (not_above (compare_rows (row_at form.now block.name) (row_at slot.now name)) ≡ true) }
+    requires name_value { 1 ≤ block.name.count → (is_name (row_at form.now block.name) ≡ true) × (is_le (compare_rows (row_at form.now block.name) (row_at slot.now name)) ≡ true) }
     ensures { result ≡ met_in form.now block (row_at slot.now name) }
 {
     let n = block.name.count;
@@ -138,22 +140,19 @@ fn splits(block: Block, index: usize, name: Span) -> Insertion
     ensures { result ≡ split_by block index name }
 {
     let from = block.lines + LINE * index;
-    let own = block.name;
-    let rest = Head {
-        name: own,
-        onward: index as u32,
-        slots: block.count - index,
-    };
-    let change = Change {
-        from,
-        to: from,
-        lines: block.lines,
-        count: index,
-        rest,
-    };
     Insertion {
         head: head_of(name, 1),
-        change,
+        change: Change {
+            from,
+            to: from,
+            lines: block.lines,
+            count: index,
+            rest: Head {
+                name: block.name,
+                onward: index as u32,
+                slots: block.count - index,
+            },
+        },
     }
 }
 
@@ -162,16 +161,15 @@ fn bridges(block: Block, next: Block, name: Span) -> Insertion
     requires { (end_of block ≤ 18446744073709551615) × (block.count + 1 + next.count ≤ 65535) }
     ensures { result ≡ bridge_by block next name }
 {
-    let change = Change {
-        from: forms::end_of(block),
-        to: next.lines,
-        lines: block.lines,
-        count: block.count + 1 + next.count,
-        rest: head_of(name, 0),
-    };
     Insertion {
         head: head_of(name, 0),
-        change,
+        change: Change {
+            from: forms::end_of(block),
+            to: next.lines,
+            lines: block.lines,
+            count: block.count + 1 + next.count,
+            rest: head_of(name, 0),
+        },
     }
 }
 
@@ -181,16 +179,15 @@ fn appends(block: Block, name: Span) -> Insertion
     ensures { result ≡ append_by block name }
 {
     let end = forms::end_of(block);
-    let change = Change {
-        from: end,
-        to: end,
-        lines: block.lines,
-        count: block.count + 1,
-        rest: head_of(name, 0),
-    };
     Insertion {
         head: head_of(name, 0),
-        change,
+        change: Change {
+            from: end,
+            to: end,
+            lines: block.lines,
+            count: block.count + 1,
+            rest: head_of(name, 0),
+        },
     }
 }
 
@@ -199,16 +196,15 @@ fn prepends(next: Block, name: Span) -> Insertion
     requires { (field_head ≤ next.name.at) × (next.count ≤ 65535) }
     ensures { result ≡ prepend_by next name }
 {
-    let change = Change {
-        from: forms::start_of(next),
-        to: next.lines,
-        lines: next.lines,
-        count: 0,
-        rest: head_of(name, 0),
-    };
     Insertion {
         head: head_of(name, 1 + next.count),
-        change,
+        change: Change {
+            from: forms::start_of(next),
+            to: next.lines,
+            lines: next.lines,
+            count: 0,
+            rest: head_of(name, 0),
+        },
     }
 }
 
@@ -216,16 +212,15 @@ fn prepends(next: Block, name: Span) -> Insertion
 fn stands_alone(at: usize, name: Span) -> Insertion
     ensures { result ≡ alone_at at name }
 {
-    let change = Change {
-        from: at,
-        to: at,
-        lines: at,
-        count: 0,
-        rest: head_of(name, 0),
-    };
     Insertion {
         head: head_of(name, 1),
-        change,
+        change: Change {
+            from: at,
+            to: at,
+            lines: at,
+            count: 0,
+            rest: head_of(name, 0),
+        },
     }
 }
 
@@ -235,13 +230,9 @@ fn comes_before(form: &[u8], next: Block, slot: &[u8], name: Span) -> bool
     requires within_2 { Within slot.now name × (is_name (row_at slot.now name) ≡ true) }
     ensures { result ≡ precedes_in form.now (row_at slot.now name) next }
 {
-    if next.count < 1 {
-        return false;
-    }
-    if name.count != next.name.count {
-        return false;
-    }
-    runs::is_onward(slot, name.at, form, next.name.at, name.count, 1)
+    1 <= next.count
+        && name.count == next.name.count
+        && runs::is_onward(slot, name.at, form, next.name.at, name.count, 1)
 }
 
 // A name above the group and below the next one, which begins at `end`: whether it is the next of the group's run, and comes right before the
@@ -258,16 +249,12 @@ fn between(
     requires field_head_le_at { precedes ≡ true → (field_head ≤ next.name.at) × (next.count ≤ 16383) }
     ensures { result ≡ between_by block next end joins precedes name }
 {
-    if joins {
-        if precedes {
-            return bridges(block, next, name);
-        }
-        return appends(block, name);
+    match (joins, precedes) {
+        (true, true) => bridges(block, next, name),
+        (true, false) => appends(block, name),
+        (false, true) => prepends(next, name),
+        (false, false) => stands_alone(end, name),
     }
-    if precedes {
-        return prepends(next, name);
-    }
-    stands_alone(end, name)
 }
 
 // Of a name above all of the group, or of none: whether it is the next of its run.
@@ -296,11 +283,7 @@ fn placed(form: &[u8], block: Block, met: Met, slot: &[u8], name: Span) -> Inser
 fn is_here(met: Met) -> bool
     ensures { result ≡ is_here met }
 {
-    match met {
-        Met::Here(_) => true,
-        Met::Inside(_) => false,
-        Met::After(_) => false,
-    }
+    matches!(met, Met::Here(_))
 }
 
 // 9, 11, 8; else the form with the slot. The tests before these have passed.
@@ -348,18 +331,16 @@ fn leaves_parts(block: Block, index: usize) -> Change
     ensures { result ≡ part_by block index }
 {
     let next = index + 1;
-    let own = block.name;
-    let rest = Head {
-        name: own,
-        onward: next as u32,
-        slots: block.count - next,
-    };
     Change {
         from: part_from(block, index),
         to: block.lines + LINE * next,
         lines: block.lines,
         count: index,
-        rest,
+        rest: Head {
+            name: block.name,
+            onward: next as u32,
+            slots: block.count - next,
+        },
     }
 }
 
@@ -397,23 +378,17 @@ fn goes_on(form: &[u8], before: Block, next: Block) -> bool
     requires within_2 { Within form.now next.name × (1 ≤ next.count → is_name (row_at form.now next.name) ≡ true) }
     ensures { result ≡ goes_on form.now before next }
 {
-    if before.count < 1 {
-        return false;
-    }
-    if next.count < 1 {
-        return false;
-    }
-    if before.name.count != next.name.count {
-        return false;
-    }
-    runs::is_onward(
-        form,
-        before.name.at,
-        form,
-        next.name.at,
-        before.name.count,
-        before.count as u32,
-    )
+    1 <= before.count
+        && 1 <= next.count
+        && before.name.count == next.name.count
+        && runs::is_onward(
+            form,
+            before.name.at,
+            form,
+            next.name.at,
+            before.name.count,
+            before.count as u32,
+        )
 }
 
 // Without slot `index` of the group, which the group before precedes and the next one follows.
@@ -454,27 +429,18 @@ fn remove_from(form: &[u8], place: Place, slot: &[u8], name: Span, out: &mut [u8
             taken_out(form, before, block, i, slot, name),
             out,
         ),
-        Met::Inside(_) => Err(Refusal::Absent),
-        Met::After(_) => Err(Refusal::Absent),
+        Met::Inside(_) | Met::After(_) => Err(Refusal::Absent),
     }
 }
 
 // ── the calls ──
 
-// What stands before an edit: a refusal, or none so far.
-#[derive(Clone, Copy)]
-enum Checked {
-    Refused(Refusal),
-    Passed,
-}
-
-// 15, 2, 11, 1 (slot).
-fn check_edit(looked: Looked, slot: &[u8]) -> Checked
-    ensures { result ≡ in_order (looked_tests looked slot.now) Err (Ok tt) }
+// 15, 2, 11, 1 (slot); else what one look at the form tells.
+fn check_edit(form: &[u8], slot: &[u8], name: Span) -> Result<Looked, Refusal>
+    requires { Lies slot.now name }
+    ensures { result ≡ in_order (edit_tests form.now slot.now) Err (Ok (all_told form.now (row_at slot.now name))) }
 {
-    if !looked.ok {
-        return Err(Refusal::Malformed);
-    }
+    let looked = forms::look(form, slot, name).ok_or(Refusal::Malformed)?;
     if !looked.rises {
         return Err(Refusal::NotRising);
     }
@@ -484,7 +450,7 @@ fn check_edit(looked: Looked, slot: &[u8]) -> Checked
     if !pages::slot_ok(slot) {
         return Err(Refusal::BadLayout);
     }
-    Ok(())
+    Ok(looked)
 }
 
 // 15, 2, 11, 1 (slot), 9, 11, 8; else the form of the page with the slot at its rising place.
@@ -493,11 +459,8 @@ pub fn insert(form: &[u8], slot: &[u8], out: &mut [u8]) -> Answer
     ensures out_after { out.new ≡ leaves (insert_form_outcome form.now slot.now (length out.old)) out.old }
 {
     let name = name_in(slot);
-    let looked = forms::look(form, slot, name);
-    match check_edit(looked, slot) {
-        Err(r) => Err(r),
-        Ok(()) => insert_into(form, looked.slots, looked.place, slot, name, out),
-    }
+    let looked = check_edit(form, slot, name)?;
+    insert_into(form, looked.slots, looked.place, slot, name, out)
 }
 
 // 15, 2, 11, 1 (slot), 10, 8; else the form of the page without the slot of that name.
@@ -506,9 +469,6 @@ pub fn remove(form: &[u8], slot: &[u8], out: &mut [u8]) -> Answer
     ensures out_after { out.new ≡ leaves (remove_form_outcome form.now slot.now (length out.old)) out.old }
 {
     let name = name_in(slot);
-    let looked = forms::look(form, slot, name);
-    match check_edit(looked, slot) {
-        Err(r) => Err(r),
-        Ok(()) => remove_from(form, looked.place, slot, name, out),
-    }
+    let looked = check_edit(form, slot, name)?;
+    remove_from(form, looked.place, slot, name, out)
 }

@@ -1,7 +1,7 @@
--- The group at the place p of a form s, as the code has it: when there is one (`block_none`, `block_is`), by what the code asks (`Asked`:
+-- The group at the place p of a form s, as the code has it: when there is one (`block_none`, `block_some`; `none_told`, `some_told`), by what the code asks (`Asked`:
 -- `stood_asked`, `asked_stands`); that it lies within s (`stood`); what it says (`block_group`), where it ends (`block_end`), and that what follows it
 -- stands there (`block_after`). Assumes nothing.
-use mathlib.Core.Path.{◌≡◌, refl, sym, ap, ◌∙◌, subst}
+use mathlib.Core.Path.{◌≡◌, refl, sym, ap, ◌∙◌}
 use mathlib.Core.Bool.{Bool, true, false, cond, ◌&&◌}
 use Prim.Native.Nat.{ℕ, ◌+◌, ◌-◌, ◌*◌, ◌/◌, ◌%◌, ◌≤◌}
 use native.Mathlib.Omega.{arith}
@@ -20,23 +20,15 @@ use Rattle.groups.specs.Groups.{line_size}
 use Rattle.groups.specs.Forms.{first_tag, length_tag, lines_tag, length_size, group_bytes, length_in, group_stands, group_in, after_group}
 use Rattle.groups.proofs.GroupFields.{group_stands_lem}
 use Rattle.groups.proofs.GroupAt.{group_at, end_at, end_within, after_at}
+use Rattle.std.specs.declared.option.Option.TheVariants.{Some, None}
 use Rattle.forms.specs.declared.Block.{Block}
-use Rattle.forms.specs.Blocks.{no_block, after_name, block_at, end_of, group_of, Stood}
+use Rattle.forms.specs.Blocks.{after_name, block_here, block_at, end_of, group_of, Stood}
 use Rattle.forms.proofs.SizesAt.{most, sizes, eight_at, fields_eight, eight_fields}
 
 -- what the test of a field asks
 is_standing : {tag size : ℕ} {s : Bytes} → Standing tag size s → stands tag size s ≡ true
 is_standing {tag} {size} {s} v =
     λ i. le-leb (field_head + size) (length s) v.long i && eq-eqb (tag_in s) tag v.tagged i && eq-eqb (size_in s) size v.sized i
-
--- the block of a group that stands at p
-abbrev pub block_here : Bytes → ℕ → Block
-block_here s p = record {
-  stands = true;
-  name = record { at = p + field_head; count = size_in (drop p s) / tuple_size };
-  lines = p + field_head + size_in (drop p s) + after_name;
-  count = length_in (after_field (drop p s));
-}
 
 module _ (s : Bytes) (p : ℕ) where
   -- where the name's field ends
@@ -107,38 +99,38 @@ module _ (s : Bytes) (p : ℕ) where
 
   -- ── the block ──
 
-  pub block_none : group_stands (drop p s) ≡ false → no_block ≡ block_at s p
-  block_none e = sym (ap (λ (b : Bool). cond b (block_here s p) no_block) e)
+  pub block_none : group_stands (drop p s) ≡ false → None ≡ block_at s p
+  block_none e = sym (ap (λ (b : Bool). cond b (Some (block_here s p)) None) e)
+
+  pub block_some : group_stands (drop p s) ≡ true → Some (block_here s p) ≡ block_at s p
+  block_some e = sym (ap (λ (b : Bool). cond b (Some (block_here s p)) None) e)
+
+  -- what the code is told of it
+  pub none_told : None ≡ block_at s p → group_stands (drop p s) ≡ false
+  none_told q = never (group_stands (drop p s)) (λ e. let z : Some (block_here s p) ≡ None = block_some e ∙ sym q in absurd (let w : ◌≡◌ {A = ℕ} 0 1 = cc in omega arith))
+
+  pub some_told : {x : Block} → Some x ≡ block_at s p → (group_stands (drop p s) ≡ true) × (x ≡ block_here s p)
+  some_told {x} q = by (group_stands (drop p s)) refl
+    where
+      by : (b : Bool) → group_stands (drop p s) ≡ b → (group_stands (drop p s) ≡ true) × (x ≡ block_here s p)
+      by true e = let z : Some x ≡ Some (block_here s p) = q ∙ sym (block_some e) in (e, cc)
+      by false e = let z : Some x ≡ None = q ∙ sym (block_none e) in absurd (let w : ◌≡◌ {A = ℕ} 0 1 = cc in omega arith)
 
   module _ (e : group_stands (drop p s) ≡ true) where
-    pub block_is : block_at s p ≡ block_here s p
-    block_is = ap (λ (b : Bool). cond b (block_here s p) no_block) e
+    pub block_group : group_of s (block_here s p) ≡ group_in (drop p s)
+    block_group = sym (group_at s p e)
 
-    pub block_group : group_of s (block_at s p) ≡ group_in (drop p s)
-    block_group = ap (group_of s) block_is ∙ sym (group_at s p e)
+    pub block_end : end_of (block_here s p) ≡ p + length (group_bytes (group_in (drop p s)))
+    block_end = sym (end_at s p e)
 
-    pub block_end : end_of (block_at s p) ≡ p + length (group_bytes (group_in (drop p s)))
-    block_end = ap end_of block_is ∙ sym (end_at s p e)
+    pub block_after : drop (end_of (block_here s p)) s ≡ after_group (drop p s)
+    block_after = sym (after_at s p e)
 
-    pub block_after : drop (end_of (block_at s p)) s ≡ after_group (drop p s)
-    block_after = ap (λ (x : Block). drop (end_of x) s) block_is ∙ sym (after_at s p e)
-
-    pub block_start : (block_at s p).name.at ≡ p + field_head
-    block_start = ap (λ (x : Block). x.name.at) block_is
-
-  -- it lies within s
-  pub stood : Octets s → Stood s (block_at s p)
-  stood k = by (group_stands (drop p s)) refl
-    where
-      by : (b : Bool) → group_stands (drop p s) ≡ b → Stood s (block_at s p)
-      by true e =
-          let v = stood_asked k e in
-          let w = v.whole in
-          let f = v.long in
-          let l = v.few in
-          subst (Stood s) (sym (block_is e)) (omega arith, f, omega arith)
-      by false e = subst (Stood s) (block_none e) (omega arith, omega arith, omega arith)
-
-  -- what the code promises of it
-  pub promised : {x : Block} → Octets s → x ≡ block_at s p → (x ≡ block_at s p) × Stood s x
-  promised k e = (e, subst (Stood s) (sym e) (stood k))
+    -- it lies within s
+    pub stood : Octets s → Stood s (block_here s p)
+    stood k =
+        let v = stood_asked k e in
+        let w = v.whole in
+        let f = v.long in
+        let l = v.few in
+        (omega arith, f, omega arith)

@@ -107,17 +107,13 @@ never_same : (b : Bool) → is_eq (cond b Less Greater) ≡ false
 never_same true = refl
 never_same false = refl
 
-is_less_lem : (b : Bool) → is_lt (cond b Less Greater) ≡ b
-is_less_lem true = refl
-is_less_lem false = refl
-
 run_told : (r : Stand) (n : ℕ) → 1 ≤ n → after_run r n ≡ told (against r n) (against r (n - 1))
 run_told Below n h = refl
 run_told Before n h = refl
 run_told (At i) n h = by_numbers i n h
 run_told (Beyond i) n h = elim (dec_le (n - 1) i) [
-  | yes l ↦ simp (le-ltb (i + 1) n (omega arith), never_same (leb n i), is_less_lem (leb (n - 1) i), le-leb (n - 1) i l)
-  | no l ↦ simp (lt-ltb (i + 1) n (omega arith), never_same (leb n i), is_less_lem (leb (n - 1) i), lt-leb (n - 1) i (omega arith))
+  | yes l ↦ simp (le-ltb (i + 1) n (omega arith), never_same (leb n i), le-leb (n - 1) i l)
+  | no l ↦ simp (lt-ltb (i + 1) n (omega arith), never_same (leb n i), lt-leb (n - 1) i (omega arith))
 ]
 run_told Above n h = refl
 

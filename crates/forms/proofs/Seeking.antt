@@ -1,13 +1,11 @@
--- Where a name would stand among groups, one group further: `sought` by the tests that the code makes, and how far it counts (`sought_few`).
--- Assumes nothing.
-use mathlib.Core.Path.{◌≡◌, sym, ap, ◌∙◌}
+-- Where a name would stand among groups, one group further: how far it counts (`sought_few`). Assumes nothing.
 use mathlib.Core.Bool.{Bool, true, false, cond}
 use Prim.Native.Nat.{ℕ, ◌+◌, ◌≤◌}
 use native.Mathlib.Omega.{arith}
-use Rattle.std.specs.declared.cmp.Ordering.{Ordering}
 use Rattle.names.specs.Ordering.{Row, compare_rows}
 use Rattle.forms.specs.declared.Place.{Place}
-use Rattle.forms.specs.Blocks.{not_above, sought}
+use Rattle.std.specs.Ordering.{is_le}
+use Rattle.forms.specs.Blocks.{sought}
 
 -- a group whose first name is not above is counted, and the first that is ends it
 abbrev counted : ℕ → Place → Place
@@ -20,15 +18,8 @@ abbrev by : Bool → Bool → ℕ → Place → Place
 by still below p x = cond still (cond below (counted p x) (ended x)) x
 
 module _ (x : Row) (p : ℕ) (a : Row) (place : Place) where
-  pub sought_over : place.sought ≡ false → place ≡ sought x p a place
-  sought_over e = sym (ap (λ (b : Bool). by b (not_above (compare_rows a x)) p place) e)
-
-  module _ {o r : Ordering} (e : place.sought ≡ true) (c : r ≡ compare_rows a x) (f : r ≡ o) where
-    pub sought_on : by true (not_above o) p place ≡ sought x p a place
-    sought_on = sym (λ i. by (e i) (not_above ((sym c ∙ f) i)) p place)
-
   pub sought_few : (sought x p a place).groups ≤ place.groups + 1
-  sought_few = few place.sought (not_above (compare_rows a x))
+  sought_few = few place.sought (is_le (compare_rows a x))
     where
       few : (b c : Bool) → (by b c p place).groups ≤ place.groups + 1
       few true true = omega arith

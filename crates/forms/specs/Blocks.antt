@@ -1,13 +1,12 @@
 -- Groups where they stand in the bytes of a form, as the code says it (`Block`, src/lib.rt), and what one look at a form tells; 02 does
 -- not speak of it.
-use Rattle.std.specs.Prelude.{ℕ, ◌+◌, ◌-◌, ◌*◌, ◌/◌, ◌≤◌, ◌≡◌, List, [], ◌∷◌, ◌++◌, map, Bool, true, false, cond, length, drop, eqb, ltb}
-use Rattle.std.specs.declared.cmp.Ordering.{Ordering}
-use Rattle.std.specs.declared.cmp.Ordering.TheVariants.{Less, Equal, Greater}
+use Rattle.std.specs.Prelude.{ℕ, ◌+◌, ◌-◌, ◌*◌, ◌/◌, ◌≤◌, ◌≡◌, List, [], ◌∷◌, ◌++◌, map, true, false, cond, length, drop, eqb, ltb}
+use Rattle.std.specs.declared.option.Option.{Option}
+use Rattle.std.specs.declared.option.Option.TheVariants.{Some, None}
 use Rattle.names.specs.Ordering.{Row, compare_rows, rising}
-use Rattle.std.specs.Ordering.{is_lt}
+use Rattle.std.specs.Ordering.{is_lt, is_le}
 use Rattle.numbers.specs.Bytes.{Bytes, bytes16}
 use Rattle.slots.specs.Tuples.{tuple_size, row_at, Within}
-use Rattle.answers.specs.Answers.{ask}
 use Rattle.pages.specs.Pages.{name_in}
 use Rattle.fields.specs.Fields.{field_head, longest_content, size_in, after_field, field_bytes}
 use Rattle.name_fields.specs.NameFields.{field_of_name}
@@ -24,24 +23,25 @@ use Rattle.forms.specs.declared.After.TheVariants.{Joins, Falls, Rises}
 
 -- ── a group where it stands ──
 
+-- no group has no slots
 abbrev pub no_block : Block
-no_block = record { stands = false; name = record { at = 0; count = 0 }; lines = 0; count = 0 }
+no_block = record { name = record { at = 0; count = 0 }; lines = 0; count = 0 }
 
 -- what stands between a group's name and its line numbers
 abbrev pub after_name : ℕ
 after_name = field_head + length_size + field_head
 
--- the group at p
-abbrev pub block_at : Bytes → ℕ → Block
-block_at s p =
-    cond (group_stands (drop p s))
-    (record {
-      stands = true;
-      name = record { at = p + field_head; count = size_in (drop p s) / tuple_size };
-      lines = p + field_head + size_in (drop p s) + after_name;
-      count = length_in (after_field (drop p s));
-    })
-    no_block
+-- the group that stands at p
+abbrev pub block_here : Bytes → ℕ → Block
+block_here s p = record {
+  name = record { at = p + field_head; count = size_in (drop p s) / tuple_size };
+  lines = p + field_head + size_in (drop p s) + after_name;
+  count = length_in (after_field (drop p s));
+}
+
+-- where one stands there
+abbrev pub block_at : Bytes → ℕ → Option Block
+block_at s p = cond (group_stands (drop p s)) (Some (block_here s p)) None
 
 abbrev pub end_of : Block → ℕ
 end_of x = x.lines + line_size * x.count
@@ -77,12 +77,6 @@ after_run Above n = Rises
 
 -- ── where a name would stand ──
 
--- a name that is not above another
-abbrev pub not_above : Ordering → Bool
-not_above Less = true
-not_above Equal = true
-not_above Greater = false
-
 abbrev pub nowhere : Place
 nowhere = record { sought = true; groups = 0; here = 0; before = 0 }
 
@@ -90,7 +84,7 @@ nowhere = record { sought = true; groups = 0; here = 0; before = 0 }
 abbrev pub sought : Row → ℕ → Row → Place → Place
 sought x p a place =
     cond place.sought
-    (cond (not_above (compare_rows a x))
+    (cond (is_le (compare_rows a x))
     (record { sought = true; groups = place.groups + 1; here = p; before = place.here })
     (record { sought = false; groups = place.groups; here = place.here; before = place.before }))
     place
@@ -102,18 +96,16 @@ sought_from x p place (g ∷ gs) = sought_from x (p + length (group_bytes g)) (s
 
 -- ── one look at a form ──
 
-abbrev pub no_form : Looked
-no_form = record { ok = false; rises = false; slots = 0; place = nowhere }
+-- what it tells of a form
+abbrev pub all_told : Bytes → Row → Looked
+all_told s x = record {
+  rises = rising (map name_in (slots_of_form s));
+  slots = length (slots_of_form s);
+  place = sought_from x 0 nowhere (groups_in s);
+}
 
-unfoldable pub looked : Bytes → Row → Looked
-looked s x =
-    ask (keeps_form s) no_form
-    (record {
-      ok = true;
-      rises = rising (map name_in (slots_of_form s));
-      slots = length (slots_of_form s);
-      place = sought_from x 0 nowhere (groups_in s);
-    })
+unfoldable pub looked : Bytes → Row → Option Looked
+looked s x = cond (keeps_form s) (Some (all_told s x)) None
 
 -- ── what stands before the line numbers of a group of so many slots ──
 

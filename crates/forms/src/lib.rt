@@ -3,7 +3,7 @@
 
 #![tactic(auto)]
 
-ghost use Rattle.std.specs.Prelude.{◌≡◌, true, ◌+◌, ◌*◌, ◌-◌, ◌≤◌, ◌<◌, length, drop};
+ghost use Rattle.std.specs.Prelude.{◌≡◌, true, ◌+◌, ◌*◌, ◌-◌, ◌≤◌, ◌<◌, length, drop, IfSome};
 ghost use Rattle.names.specs.Names.{is_name};
 ghost use Rattle.numbers.specs.Bytes.{at32, put};
 ghost use Rattle.slots.specs.Tuples.{row_at, Within, Lies, tuple_size};
@@ -11,7 +11,7 @@ ghost use Rattle.fields.specs.Fields.{field_head};
 ghost use Rattle.runs.specs.Runs.{onward};
 ghost use Rattle.groups.specs.Groups.{line_size, is_group};
 ghost use Rattle.groups.specs.Forms.{group_stands};
-ghost use Rattle.forms.specs.Blocks.{no_block, block_at, end_of, group_of, Stood, Sound, after_group_of, after_run, after_name, nowhere, sought, no_form, looked, sizes_bytes, head_bytes};
+ghost use Rattle.forms.specs.Blocks.{no_block, block_here, block_at, end_of, group_of, Stood, Sound, after_group_of, after_run, after_name, sought, looked, sizes_bytes, head_bytes};
 
 use fields::{Cursor, FIELD};
 use groups::{AFTER_NAME, FIRST_TAG, GROUP, LENGTH, LENGTH_TAG, LINE, LINES_TAG, MOST};
@@ -20,10 +20,9 @@ use runs::{OFFSET_SIZE, Stand};
 use slots::{Span, TUPLE};
 use std::cmp::Ordering;
 
-// A group where it stands in a form: its first name, where its line numbers stand, and how many slots it has. Where none stands all is zero.
+// A group where it stands in a form: its first name, where its line numbers stand, and how many slots it has.
 #[derive(Clone, Copy)]
 pub struct Block {
-    pub stands: bool,
     pub name: Span,
     pub lines: usize,
     pub count: usize,
@@ -34,21 +33,15 @@ const OFFSETS: usize = 2147483647;
 
 // ── a group where it stands ──
 
+// What stands beside a group where there is none: a group of no slots, and no Option, since whoever asks for it asks for its slots.
 pub fn no_block() -> Block
     ensures { result ≡ no_block }
 {
     Block {
-        stands: false,
         name: Span { at: 0, count: 0 },
         lines: 0,
         count: 0,
     }
-}
-
-fn wide(x: u16) -> usize
-    ensures { (result ≡ x) × (result ≤ 65535) }
-{
-    x as usize
 }
 
 // The eight bytes between the name and the line numbers of a group of no slots as one number: the field of the length, and tag and length of
@@ -58,71 +51,61 @@ const SIZES: u64 = 504405357289275392;
 // How much more each slot makes of it: one more in the length, four more in the length of the other field.
 const SLOT_SIZES: u64 = 16777220;
 
-// The group whose fields stand one after the other from the cursor on. That all but its line numbers is within the form is asked first: where
+// The group whose fields stand one after the other from the cursor on, or none. That all but its line numbers is within the form is asked first: where
 // it would end is then known before its bytes are tested.
-pub fn block_at(form: &[u8], cursor: Cursor) -> Block
+pub fn block_at(form: &[u8], cursor: Cursor) -> Option<Block>
     requires { cursor.at ≤ length form.now }
     ensures value { result ≡ block_at form.now cursor.at }
-    ensures stood { Stood form.now result }
+    ensures stood { IfSome result (λ block. Stood form.now block) }
 {
     let at = cursor.at;
     let left = form.len() - at;
     if left < GROUP {
-        return no_block();
+        return None;
     }
     let size = fields::size_at(form, cursor);
     if left - GROUP < size {
-        return no_block();
+        return None;
     }
     let after = at + FIELD + size;
     let lines = after + AFTER_NAME;
-    let count = wide(numbers::read_u16(form, after + FIELD));
+    let count = usize::from(numbers::read_u16(form, after + FIELD));
     let end = lines + LINE * count;
     let depth = size / TUPLE;
     if form[at] != FIRST_TAG {
-        return no_block();
+        return None;
     }
     if TUPLE * depth < size {
-        return no_block();
+        return None;
     }
     if MOST < count {
-        return no_block();
+        return None;
     }
     if numbers::read_u64(form, after) != SIZES + SLOT_SIZES * (count as u64) {
-        return no_block();
+        return None;
     }
     if form.len() < end {
-        return no_block();
+        return None;
     }
-    Block {
-        stands: true,
-        name: Span {
-            at: at + FIELD,
-            count: depth,
-        },
-        lines,
-        count,
-    }
+    Some(block_here(form, cursor))
 }
 
 // The same where one stands.
 pub fn block_here(form: &[u8], cursor: Cursor) -> Block
     requires { (cursor.at ≤ length form.now) × (group_stands (drop cursor.at form.now) ≡ true) }
-    ensures value { result ≡ block_at form.now cursor.at }
+    ensures value { result ≡ block_here form.now cursor.at }
     ensures stood { Stood form.now result }
 {
     let size = fields::size_at(form, cursor);
     let at = cursor.at + FIELD;
     let after = at + size;
-    let count = wide(numbers::read_u16(form, after + FIELD));
     Block {
-        stands: true,
         name: Span {
             at,
             count: size / TUPLE,
         },
         lines: after + AFTER_NAME,
-        count,
+        count: usize::from(numbers::read_u16(form, after + FIELD)),
     }
 }
 
@@ -157,19 +140,11 @@ fn group_ok(form: &[u8], block: Block) -> bool
     ensures { result ≡ is_group (group_of form.now block) }
 {
     let name = block.name;
-    if block.count < 1 {
-        return false;
-    }
-    if name.count < 1 {
-        return false;
-    }
-    if LIMIT < name.count {
-        return false;
-    }
-    if !slots::is_name_at(form, name.at, name.count) {
-        return false;
-    }
-    last_offset(form, name) + block.count <= OFFSETS
+    1 <= block.count
+        && 1 <= name.count
+        && name.count <= LIMIT
+        && slots::is_name_at(form, name.at, name.count)
+        && last_offset(form, name) + block.count <= OFFSETS
 }
 
 // How a name comes after a group: as the next of its run, above its last name, or not.
@@ -186,22 +161,22 @@ fn after_run(stand: Stand, count: usize) -> After
     ensures { result ≡ after_run stand count }
 {
     match stand {
-        Stand::Below => After::Falls,
-        Stand::Before => After::Falls,
+        Stand::Below | Stand::Before => After::Falls,
         Stand::At(i) => {
             if i < count {
-                return After::Falls;
+                After::Falls
+            } else if i == count {
+                After::Joins
+            } else {
+                After::Rises
             }
-            if i == count {
-                return After::Joins;
-            }
-            After::Rises
         }
         Stand::Beyond(i) => {
             if i < count - 1 {
-                return After::Falls;
+                After::Falls
+            } else {
+                After::Rises
             }
-            After::Rises
         }
         Stand::Above => After::Rises,
     }
@@ -221,25 +196,13 @@ fn after_block(form: &[u8], last: Block, name: Span) -> After
 // ── where a name would stand ──
 
 // How many groups, from the first on, have a first name that is not above a given one, and where the last of them begins and the one before
-// it. It is sought until a group's first name is above.
+// it. It is sought until a group's first name is above; the rest is told then too, so that `sought` makes no Option of it.
 #[derive(Clone, Copy)]
 pub struct Place {
     pub sought: bool,
     pub groups: usize,
     pub here: usize,
     pub before: usize,
-}
-
-// Before any group.
-fn nowhere() -> Place
-    ensures { result ≡ nowhere }
-{
-    Place {
-        sought: true,
-        groups: 0,
-        here: 0,
-        before: 0,
-    }
 }
 
 // One group further, whose first name stands at `first` and which begins at `at`.
@@ -251,80 +214,54 @@ fn seek(form: &[u8], first: Span, at: usize, slot: &[u8], name: Span, place: Pla
         return place;
     }
     match slots::compare_rows(form, first.at, first.count, slot, name.at, name.count) {
-        Ordering::Less => Place {
-            sought: true,
+        Ordering::Less | Ordering::Equal => Place {
             groups: place.groups + 1,
             here: at,
             before: place.here,
-        },
-        Ordering::Equal => Place {
-            sought: true,
-            groups: place.groups + 1,
-            here: at,
-            before: place.here,
+            ..place
         },
         Ordering::Greater => Place {
             sought: false,
-            groups: place.groups,
-            here: place.here,
-            before: place.before,
+            ..place
         },
     }
 }
 
 // ── one look at a form ──
 
-// What one look at a form tells: whether it is one, its order and the number of its slots apart; whether its names rise; how many slots it
-// has; and where a name would stand. Of what is no form, zeros.
+// What one look at a form tells, its order and the number of its slots apart: whether its names rise; how many slots it has; and where a
+// name would stand.
 #[derive(Clone, Copy)]
 pub struct Looked {
-    pub ok: bool,
     pub rises: bool,
     pub slots: usize,
     pub place: Place,
 }
 
-fn no_form() -> Looked
-    ensures { result ≡ no_form }
-{
-    let place = nowhere();
-    Looked {
-        ok: false,
-        rises: false,
-        slots: 0,
-        place,
-    }
-}
-
-// Group by group, each after the one before it. 15 comes before 2 wherever it stands, so that a name that does not rise ends nothing. The
-// name for which a place is sought stands in `slot`; the row of no tuples is below every name, so that none is sought for it.
-pub fn look(form: &[u8], slot: &[u8], name: Span) -> Looked
+// Group by group, each after the one before it; of what is no form nothing is told. 15 comes before 2 wherever it stands, so that a name that
+// does not rise ends nothing. The name for which a place is sought stands in `slot`; the row of no tuples is below every name, so that none is
+// sought for it.
+pub fn look(form: &[u8], slot: &[u8], name: Span) -> Option<Looked>
     requires { Within slot.now name }
     ensures { result ≡ looked form.now (row_at slot.now name) }
 {
-    let mut place = nowhere();
+    let mut place = Place {
+        sought: true,
+        groups: 0,
+        here: 0,
+        before: 0,
+    };
     let mut last = no_block();
     let mut rises = true;
     let mut slots: usize = 0;
     let mut at: usize = 0;
-    loop {
-        if form.len() <= at {
-            break Looked {
-                ok: true,
-                rises,
-                slots,
-                place,
-            };
-        }
-        let block = block_at(form, Cursor { at });
-        if !block.stands {
-            break no_form();
-        }
+    while at < form.len() {
+        let block = block_at(form, Cursor { at })?;
         if !group_ok(form, block) {
-            break no_form();
+            return None;
         }
         match after_block(form, last, block.name) {
-            After::Joins => break no_form(),
+            After::Joins => return None,
             After::Falls => {
                 rises = false;
             }
@@ -335,6 +272,11 @@ pub fn look(form: &[u8], slot: &[u8], name: Span) -> Looked
         last = block;
         at = end_of(block);
     }
+    Some(Looked {
+        rises,
+        slots,
+        place,
+    })
 }
 
 // ── writing ──

@@ -22,7 +22,7 @@ use Rattle.page_renames.specs.Renames.{carry, carried}
 use Rattle.page_renames.proofs.Books as renames
 use Rattle.runs.specs.Runs.{next, onward}
 use Rattle.runs.proofs.RunNames.{onward_last}
-use Rattle.groups.specs.Groups.{Group, run, grouped}
+use Rattle.groups.specs.Groups.{Group, line_in, run, grouped}
 use Rattle.groups.specs.Forms.{form_bytes}
 use Rattle.groups.specs.Calls.{form_pieces, group_outcome}
 use Rattle.groups.proofs.Glue.{grouped_run}
@@ -30,7 +30,7 @@ use Rattle.groups.proofs.GroupBytes.{group_length}
 use Rattle.groups.proofs.FormInverse.{form_none}
 use Rattle.groups.proofs.FormSizes.{form_length}
 use Rattle.groups.proofs.FormOutcomes.{form_writes}
-use Rattle.grouped_renames.specs.Grouped.{RenamesAll, line_in, group_of, renamed_size, renamed, OneGroup, Laws}
+use Rattle.grouped_renames.specs.Grouped.{RenamesAll, group_of, renamed_size, renamed, OneGroup, Laws}
 
 -- ── names that become a run ──
 

@@ -6,12 +6,11 @@ use Rattle.names.specs.declared.Author.{Author}
 use Rattle.name_renames.specs.Rules.{N}
 use Rattle.numbers.specs.Bytes.{Bytes}
 use Rattle.slots.specs.Tuples.{tuple_size}
-use Rattle.slots.specs.Slots.{Slot}
 use Rattle.std.specs.declared.result.Result.TheVariants.{Ok}
 use Rattle.pages.specs.Pages.{max_slots, slots_of, names_of}
 use Rattle.page_renames.specs.Renames.{rename_outcome}
 use Rattle.page_renames.specs.Laws.{Given}
-use Rattle.groups.specs.Groups.{Group, line_size, grouped}
+use Rattle.groups.specs.Groups.{Group, line_size, line_in, grouped}
 use Rattle.groups.specs.Forms.{form_bytes, group_head}
 use Rattle.groups.specs.Calls.{group_outcome}
 
@@ -24,9 +23,6 @@ pub record RenamesAll (page log : Bytes) (author : Author) (room n : ℕ) : Type
   pub accepted : (rename_outcome page log author room).answer ≡ Ok n
 
 -- ── its group ──
-
-abbrev pub line_in : Slot → ℕ
-line_in x = x.line
 
 -- "the first name, a length and the line numbers in order": the first name is 01's N(0), where "N(k) = the name (p, A, s, k)", and "Line
 -- numbers travel with their names"

@@ -10,8 +10,8 @@ use lib.Seq.{drop-cons, length-take-le}
 use Rattle.slots.specs.Slots.{Slot}
 use Rattle.pages.specs.Pages.{name_in}
 use Rattle.runs.specs.Runs.{is_next}
-use Rattle.groups.specs.Groups.{Group, alone, joined, grouped}
-use Rattle.grouping.specs.FirstGroup.{size_of_first, first_run, line_in}
+use Rattle.groups.specs.Groups.{Group, line_in, alone, joined, grouped}
+use Rattle.grouping.specs.FirstGroup.{size_of_first, first_run}
 
 -- how many slots, of x and those after it, are one run
 abbrev pub run_of : Slot → List Slot → ℕ

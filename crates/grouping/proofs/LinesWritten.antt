@@ -11,7 +11,7 @@ use Rattle.numbers.proofs.ReadNumbers.{four_on, four_within}
 use Rattle.slots.specs.Slots.{Slot, slot_size, slot_of}
 use Rattle.pages.specs.Pages.{parts_of, slots_of}
 use Rattle.pages.proofs.SlotBySlot.{length_slots}
-use Rattle.grouping.specs.FirstGroup.{line_in}
+use Rattle.groups.specs.Groups.{line_in}
 
 -- the line numbers of n slots from slot k on
 abbrev pub lines_from : List Slot → ℕ → ℕ → List ℕ

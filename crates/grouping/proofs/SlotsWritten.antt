@@ -29,7 +29,7 @@ use Rattle.groups.proofs.GroupFields.{rest_in, groups_turn, rest_turn, rest_stop
 use Rattle.groups.proofs.GroupBytes.{group_length}
 use Rattle.groups.proofs.FormInverse.{kept}
 use Rattle.forms.specs.declared.Block.{Block}
-use Rattle.forms.specs.Blocks.{block_at, end_of, group_of}
+use Rattle.forms.specs.Blocks.{block_here, end_of, group_of}
 use Rattle.forms.proofs.BlockAt.{block_group, block_end, block_after}
 use Rattle.forms.proofs.GroupsInBlocks.{group_size, group_named}
 use Rattle.grouping.proofs.FirstRun.{no_slot}
@@ -106,7 +106,7 @@ module _ {s o₀ o : Bytes} {i at : ℕ} (v : Ungrouping s o₀ o i at) where
         by false e = absurd (let z = ap length (sym (rest_stop (drop at s) e) ∙ v.ended) in omega (arith, length-drop at s))
 
     -- the group that stands there, as the code has it
-    module _ (x : Block) (f : x ≡ block_at s at) where
+    module _ (x : Block) (f : x ≡ block_here s at) where
       abbrev g : Group
       g = group_of s x
 

@@ -15,9 +15,6 @@ size_of_first (g ∷ gs) = size g
 abbrev pub first_run : List Slot → ℕ
 first_run l = size_of_first (grouped l)
 
-abbrev pub line_in : Slot → ℕ
-line_in x = x.line
-
 -- how many bytes slot k brings to the form: its line number, and where it begins a group what stands before that
 abbrev pub begins : List Slot → ℕ → Bool
 begins l zero = true

@@ -11,22 +11,19 @@ ghost use Rattle.slots.specs.Slots.{slot_size};
 ghost use Rattle.answers.specs.Answers.{leaves};
 ghost use Rattle.pages.specs.Pages.{slots_of, names_of, pieces, keeps_layout};
 ghost use Rattle.runs.specs.Runs.{is_next};
-ghost use Rattle.groups.specs.Groups.{line_size, slots_in, grouped, is_group};
+ghost use Rattle.groups.specs.Groups.{line_size, line_in, slots_in, grouped, is_group};
 ghost use Rattle.groups.specs.Forms.{group_head, line_bytes, form_bytes, slots_of_form, keeps_form};
 ghost use Rattle.groups.specs.Calls.{group_outcome, ungroup_outcome};
 ghost use Rattle.forms.specs.Blocks.{group_of, Stood};
-ghost use Rattle.grouping.specs.FirstGroup.{first_run, line_in, slot_bytes_in};
+ghost use Rattle.grouping.specs.FirstGroup.{first_run, slot_bytes_in};
 
 use answers::{Answer, Refusal};
 use fields::Cursor;
 use forms::Block;
-use groups::{GROUP, LINE};
+use groups::{GROUP, LINE, SLOT_LINE};
 use names::LIMIT;
 use pages::SLOTS;
-use slots::{SLOT, Seen, Span, TUPLE};
-
-// Where the line number stands in a slot.
-const SLOT_LINE: usize = 4;
+use slots::{SLOT, Span, TUPLE};
 
 // The bytes of a group of one slot whose name has as many tuples as a name can have.
 const ALONE: usize = GROUP + TUPLE * LIMIT + LINE;
@@ -40,10 +37,7 @@ fn is_next(page: &[u8], k: usize) -> bool
 {
     let x = pages::span_of(page, k - 1);
     let y = pages::span_of(page, k);
-    if x.count != y.count {
-        return false;
-    }
-    runs::is_onward(page, x.at, page, y.at, x.count, 1)
+    x.count == y.count && runs::is_onward(page, x.at, page, y.at, x.count, 1)
 }
 
 // How many slots from slot k on are one run: "Groups are as long as possible".
@@ -52,16 +46,12 @@ fn run_from(page: &[u8], k: usize) -> usize
     ensures { (result ≡ first_run (drop k (slots_of page.now))) × (1 ≤ result) × (k + result ≤ length (slots_of page.now)) }
 {
     let n = page.len() / SLOT;
-    let mut i = k + 1;
-    loop {
-        if n <= i {
-            break i - k;
-        }
+    for i in k + 1..n {
         if !is_next(page, i) {
-            break i - k;
+            return i - k;
         }
-        i += 1;
     }
+    n - k
 }
 
 // How many bytes slot k brings to the form: its line number, and where it begins a group what stands before that.
@@ -69,13 +59,10 @@ fn slot_size(page: &[u8], k: usize) -> usize
     requires { (keeps_layout page.now ≡ true) × (k < length (slots_of page.now)) }
     ensures { (result ≡ slot_bytes_in (slots_of page.now) k) × (result ≤ group_head + tuple_size * limit + line_size) }
 {
-    if 0 < k {
-        if is_next(page, k) {
-            return LINE;
-        }
+    if 0 < k && is_next(page, k) {
+        return LINE;
     }
-    let name = pages::span_of(page, k);
-    GROUP + TUPLE * name.count + LINE
+    GROUP + TUPLE * pages::span_of(page, k).count + LINE
 }
 
 // How many bytes the form has.
@@ -83,12 +70,9 @@ fn form_size(page: &[u8]) -> usize
     requires { keeps_layout page.now ≡ true }
     ensures { result ≡ length (form_bytes (grouped (slots_of page.now))) }
 {
-    let n = page.len() / SLOT;
-    let mut k: usize = 0;
     let mut size: usize = 0;
-    while k < n {
+    for k in 0..page.len() / SLOT {
         size += slot_size(page, k);
-        k += 1;
     }
     size
 }
@@ -98,10 +82,7 @@ fn has_room(page: &[u8], room: usize) -> bool
     requires { keeps_layout page.now ≡ true }
     ensures { result ≡ leb (length (form_bytes (grouped (slots_of page.now)))) room }
 {
-    if ALONE * (page.len() / SLOT) <= room {
-        return true;
-    }
-    form_size(page) <= room
+    ALONE * (page.len() / SLOT) <= room || form_size(page) <= room
 }
 
 // The line numbers of n slots from slot k on, from p on.
@@ -109,12 +90,9 @@ fn write_lines(page: &[u8], k: usize, n: usize, out: &mut [u8], p: usize)
     requires { (k + n ≤ length (slots_of page.now)) × (p + line_size * n ≤ length out.old) }
     ensures { out.new ≡ put out.old p (line_bytes (map line_in (take n (drop k (slots_of page.now))))) }
 {
-    let mut i: usize = 0;
-    while i < n {
-        let at = SLOT * (k + i);
-        let line = numbers::read_u32(page, at + SLOT_LINE);
+    for i in 0..n {
+        let line = numbers::read_u32(page, SLOT * (k + i) + SLOT_LINE);
         numbers::write_u32(out, p + LINE * i, line);
-        i += 1;
     }
 }
 
@@ -142,11 +120,7 @@ pub fn group(page: &[u8], out: &mut [u8]) -> Answer
     ensures value { result ≡ (group_outcome page.now (length out.old)).answer }
     ensures out_after { out.new ≡ leaves (group_outcome page.now (length out.old)) out.old }
 {
-    match pages::look(page) {
-        Seen::Broken => return Err(Refusal::BadLayout),
-        Seen::NotRising => return Err(Refusal::NotRising),
-        Seen::Rising => {}
-    }
+    pages::check_page(page)?;
     if !has_room(page, out.len()) {
         return Err(Refusal::Short);
     }
@@ -160,12 +134,9 @@ fn write_run(form: &[u8], block: Block, i: usize, out: &mut [u8])
     requires { Stood form.now block × (is_group (group_of form.now block) ≡ true) × (slot_size * (i + block.count) ≤ length out.old) }
     ensures { out.new ≡ put out.old (slot_size * i) (flatten (pieces (slots_in (group_of form.now block)))) }
 {
-    let lines = block.lines;
-    let mut k: usize = 0;
-    while k < block.count {
-        let line = numbers::read_u32(form, lines + LINE * k);
+    for k in 0..block.count {
+        let line = numbers::read_u32(form, block.lines + LINE * k);
         runs::copy_slot_onward(out, SLOT * (i + k), line, form, block.name, k as u32);
-        k += 1;
     }
 }
 
@@ -189,10 +160,7 @@ pub fn ungroup(form: &[u8], out: &mut [u8]) -> Answer
     ensures value { result ≡ (ungroup_outcome form.now (length out.old)).answer }
     ensures out_after { out.new ≡ leaves (ungroup_outcome form.now (length out.old)) out.old }
 {
-    let looked = forms::look(form, form, Span { at: 0, count: 0 });
-    if !looked.ok {
-        return Err(Refusal::Malformed);
-    }
+    let looked = forms::look(form, form, Span { at: 0, count: 0 }).ok_or(Refusal::Malformed)?;
     if !looked.rises {
         return Err(Refusal::NotRising);
     }

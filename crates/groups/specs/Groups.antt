@@ -17,6 +17,9 @@ pub record Group : Type 0 where
 abbrev pub size : Group → ℕ
 size g = length g.lines
 
+abbrev pub line_in : Slot → ℕ
+line_in x = x.line
+
 -- ── the slots of a group, and of groups ──
 
 -- "names differ only in the last offset, each one more than the one before"

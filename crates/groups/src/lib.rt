@@ -17,6 +17,9 @@ pub const LENGTH: usize = 2;
 
 pub const LINE: usize = 4;
 
+// Where the line number stands in a slot.
+pub const SLOT_LINE: usize = 4;
+
 // The most slots of a group: so many line numbers have room in a field.
 pub const MOST: usize = 16383;
 

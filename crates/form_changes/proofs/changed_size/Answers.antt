@@ -4,9 +4,6 @@ use mathlib.Core.List.{[]}
 use Rattle.form_changes.proofs.ChangedBytes.{head_in_length, changed_length}
 use Rattle.form_changes.proofs.changed_size.Goals as goal
 
-pub head_size-requires : goal.head_size-requires
-head_size-requires c = λ h. (c.requires.rest h).0.1
-
 pub returns : goal.returns
 returns c =
     let s = c.args.form.now in

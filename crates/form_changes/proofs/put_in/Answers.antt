@@ -10,9 +10,6 @@ use Rattle.form_changes.specs.Changes.{head_in, given, changed}
 use Rattle.form_changes.proofs.ChangedBytes.{head_in_length, back_length, changed_length, put_written, too_short, is_written}
 use Rattle.form_changes.proofs.put_in.Goals as goal
 
-pub head_size-requires : goal.head_size-requires
-head_size-requires c = λ h. (c.requires.1.head h).0.1
-
 pub returns-then-out-size : goal.returns-then-out-size
 returns-then-out-size c =
     let o = c.args.out.now in

@@ -2,32 +2,13 @@
 use mathlib.Core.Path.{ap, ◌∙◌}
 use Prim.Native.Nat.{◌-◌}
 use native.Mathlib.Omega.{arith}
-use lib.ListN.{length, drop, length-drop, length-take}
+use lib.ListN.{length, drop, length-drop}
 use lib.Seq.{take_all}
 use Rattle.numbers.specs.Bytes.{put}
 use Rattle.numbers.proofs.Put.{put_more}
 use Rattle.form_changes.specs.Changes.{head_in}
 use Rattle.form_changes.proofs.ChangedBytes.{back_length}
 use Rattle.form_changes.proofs.write_back.Goals as goal
-
-pub write_head-rest-requires : goal.write_head-rest-requires
-write_head-rest-requires c =
-    let v = c.requires.0 in
-    let l = back_length c.args.form.now c.args.c v in
-    (v.rest, omega arith)
-
-pub copy_long-requires : goal.copy_long-requires
-copy_long-requires c =
-    let s = c.args.form.now in
-    let x = c.args.c in
-    let v = c.requires.0 in
-    let l = back_length s x v in
-    let within = v.within in
-    let t = length-take (length s - x.to) (drop x.to s) in
-    let d = length-drop x.to s in
-    let r = c.write_head-rest.ensures.value in
-    let k = c.write_head-rest.auto.out in
-    omega arith
 
 pub returns : goal.returns
 returns c =

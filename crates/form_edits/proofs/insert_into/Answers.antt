@@ -10,7 +10,7 @@ use Rattle.numbers.specs.Bytes.{Octets}
 use Rattle.slots.specs.Slots.{name_of}
 use Rattle.groups.specs.Forms.{group_stands}
 use Rattle.forms.specs.declared.Place.{Place}
-use Rattle.forms.specs.Blocks.{not_above}
+use Rattle.std.specs.Ordering.{is_le}
 use Rattle.slots.specs.Tuples.{row_at}
 use Rattle.answers.specs.Answers.{Outcome, leaves}
 use Rattle.answers.proofs.Outcomes.{refused}
@@ -46,7 +46,7 @@ meet-met-requires c =
       within = (c.block_by-block.ensures.stood.0, e.lies, given_named s t octets slot_octets c.args.name e);
       name_value = λ l.
           let v = block_low s t octets slot_octets c.args.name e b f l in
-          (v.0, ap (λ (y : Row). not_above (compare_rows (row_at s b.name) y)) e.named ∙ v.1);
+          (v.0, ap (λ (y : Row). is_le (compare_rows (row_at s b.name) y)) e.named ∙ v.1);
     }
 
 pub returns-then-is_here : goal.returns-then-is_here

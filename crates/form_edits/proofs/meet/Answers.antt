@@ -3,7 +3,7 @@ use mathlib.Core.Path.{◌≡◌, sym, ap, ◌∙◌}
 use mathlib.Core.Bool.{false, cond}
 use Prim.Native.Nat.{◌-◌}
 use native.Mathlib.Omega.{arith}
-use borrow.Author.Tests.{eq-eqb, ne_eqb}
+use borrow.Author.Tests.{ne_eqb}
 use lib.Dec.{eqb}
 use Rattle.slots.specs.Tuples.{row_at}
 use Rattle.runs.specs.declared.Stand.{Stand}
@@ -22,9 +22,6 @@ returns-then-name-n c =
     let far : beside_of (row_at x.form.now n) (row_at x.slot.now x.name) ≡ Above =
     shorter x.form.now n.at n.count x.slot.now x.name.at x.name.count r.0 r.1 c.if-name-n.true in
     simp (some, far)
-
-pub returns-then-n-lt1 : goal.returns-then-n-lt1
-returns-then-n-lt1 c = simp (eq-eqb c.args.block.name.count 0 (omega arith))
 
 pub returns-then-not-same_but_last : goal.returns-then-not-same_but_last
 returns-then-not-same_but_last c =

@@ -11,7 +11,7 @@ use Rattle.slots.specs.Slots.{name_of}
 use Rattle.groups.specs.Forms.{group_stands}
 use Rattle.forms.specs.declared.Block.{Block}
 use Rattle.forms.specs.declared.Place.{Place}
-use Rattle.forms.specs.Blocks.{not_above}
+use Rattle.std.specs.Ordering.{is_le}
 use Rattle.answers.specs.Answers.{Outcome, leaves}
 use Rattle.answers.proofs.Outcomes.{refused}
 use Rattle.slots.specs.Tuples.{row_at}
@@ -20,6 +20,12 @@ use Rattle.form_edits.specs.Edits.{reached_in, preceded_in, taken_in}
 use Rattle.form_edits.proofs.Chosen.{Found, found, chosen_inside, chosen_after, chosen_out, Removes, is_here_lem, given_named}
 use Rattle.form_edits.proofs.Asked.{reached_stands, preceded_stands, block_low}
 use Rattle.form_edits.proofs.Outcomes.{remove_absent, remove_done}
+use mathlib.Core.Logic.{inl, inr}
+use mathlib.Core.List.{map}
+use mathlib.Core.Bool.{false}
+use Rattle.pages.specs.Pages.{name_in}
+use Rattle.pages.specs.Places.{has}
+use Rattle.groups.specs.Forms.{slots_of_form}
 use Rattle.form_edits.proofs.remove_from.Goals as goal
 
 pub block_by-block-requires : goal.block_by-block-requires
@@ -57,7 +63,7 @@ meet-requires c =
       within = (c.block_by-block.ensures.stood.0, e.lies, given_named s t octets slot_octets c.args.name e);
       name_value = λ l.
           let v = block_low s t octets slot_octets c.args.name e b f l in
-          (v.0, ap (λ (r : Row). not_above (compare_rows (row_at s b.name) r)) e.named ∙ v.1);
+          (v.0, ap (λ (r : Row). is_le (compare_rows (row_at s b.name) r)) e.named ∙ v.1);
     }
 
 pub taken_out-requires : goal.taken_out-requires
@@ -135,27 +141,10 @@ returns-in-Inside c =
     let e = c.requires.0 in
     let b = c.block_by-block.result in
     let f = subst (Found s t octets slot_octets c.args.name e) (sym is_reached) (found s t octets slot_octets c.args.name e) in
-    let n = ap (met_in s b) (sym e.named) ∙ sym c.meet.ensures ∙ c.in-Inside.is in
-    let both =
-    refused _ _ _
-    (remove_absent s t slot_octets c.args.name e (length c.args.out.now)
-    (chosen_inside s t octets slot_octets c.args.name e b f _ n).absent)
-    in record { value = both.0; out_after = both.1 }
-
-pub returns-in-After : goal.returns-in-After
-returns-in-After c =
-    let octets : Octets c.args.form.now = λ i. omega (arith, c.type_inv.form i) in
-    let slot_octets : Octets c.args.slot.now = λ i. omega (arith, c.type_inv.slot i) in
-    let is_reached : c.block_by-block.result ≡ reached_in c.args.form.now (name_of c.args.slot.now) =
-    c.block_by-block.ensures.value ∙ ap (λ (p : Place). block_by c.args.form.now (ltb 0 p.groups) p.here) c.requires.1 in
-    let s = c.args.form.now in
-    let t = c.args.slot.now in
-    let e = c.requires.0 in
-    let b = c.block_by-block.result in
-    let f = subst (Found s t octets slot_octets c.args.name e) (sym is_reached) (found s t octets slot_octets c.args.name e) in
-    let n = ap (met_in s b) (sym e.named) ∙ sym c.meet.ensures ∙ c.in-After.is in
-    let both =
-    refused _ _ _
-    (remove_absent s t slot_octets c.args.name e (length c.args.out.now)
-    (chosen_after s t octets slot_octets c.args.name e b f _ n).absent)
+    let absent : has (name_of t) (map name_in (slots_of_form s)) ≡ false =
+    elim c.in-Inside.is [
+      | inl w ↦ (chosen_inside s t octets slot_octets c.args.name e b f w.0 (ap (met_in s b) (sym e.named) ∙ sym c.meet.ensures ∙ w.1)).absent
+      | inr w ↦ (chosen_after s t octets slot_octets c.args.name e b f w.0 (ap (met_in s b) (sym e.named) ∙ sym c.meet.ensures ∙ w.1)).absent
+    ] in
+    let both = refused _ _ _ (remove_absent s t slot_octets c.args.name e (length c.args.out.now) absent)
     in record { value = both.0; out_after = both.1 }

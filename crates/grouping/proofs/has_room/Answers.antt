@@ -1,9 +1,7 @@
 -- `grouping::has_room` meets its contract. Assumes nothing.
-use mathlib.Core.Path.{sym, ap}
-use Prim.Native.Nat.{ℕ}
+use mathlib.Core.Path.{◌∙◌, sym}
 use native.Mathlib.Omega.{arith}
 use borrow.Author.Tests.{le-leb}
-use lib.Dec.{leb}
 use lib.ListN.{length}
 use Rattle.pages.specs.Pages.{slots_of}
 use Rattle.pages.proofs.RoundTrip.{page_slots}
@@ -18,7 +16,4 @@ returns-then-page-room c =
     let s = c.args.page.now in
     let w = slots_within (slots_of s) (page_slots s (λ i. omega (arith, c.type_inv.page i)) c.requires) in
     let n = length_slots s in
-    sym (le-leb (length (form_bytes (grouped (slots_of s)))) c.args.room (omega arith))
-
-pub returns : goal.returns
-returns c = ap (λ (n : ℕ). leb n c.args.room) c.form_size.ensures
+    le-leb _ _ c.if-page-room.true ∙ sym (le-leb (length (form_bytes (grouped (slots_of s)))) c.args.room (omega arith))

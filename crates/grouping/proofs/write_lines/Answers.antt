@@ -1,3 +1,4 @@
+-- `grouping::write_lines` meets its contract. Assumes nothing.
 use mathlib.Core.Path.{◌≡◌, refl, sym, ap, ◌∙◌}
 use Prim.Native.Nat.{ℕ, ◌+◌, ◌*◌, ◌≤◌}
 use native.Mathlib.Omega.{arith}
@@ -6,7 +7,7 @@ use Rattle.numbers.specs.Bytes.{Bytes, bytes32}
 use Rattle.pages.specs.Pages.{slots_of}
 use Rattle.pages.proofs.SlotBySlot.{length_slots}
 use Rattle.groups.specs.Groups.{line_size}
-use Rattle.grouping.proofs.PiecesFrom.{writing_first, writing_on, writing_end}
+use Rattle.grouping.proofs.PiecesFrom.{writing_on, writing_end}
 use Rattle.grouping.proofs.LinesWritten.{lines_from, length_lines, line_of, line_piece}
 use Rattle.grouping.proofs.write_lines.Goals as goal
 use Rattle.grouping.proofs.write_lines.Invariants.{line_pieces}
@@ -14,19 +15,14 @@ use Rattle.grouping.proofs.write_lines.Invariants.{line_pieces}
 many : (page : Bytes) (k n : ℕ) → k + n ≤ length (slots_of page) → length (line_pieces page k n) ≡ n
 many page k n h = length-map (lines_from (slots_of page) k n) bytes32 ∙ length_lines (slots_of page) k n h
 
-pub loop-i-init : goal.loop-i-init
-loop-i-init c =
-    let args = c.args in
-    writing_first line_size args.p (line_pieces args.page.now args.k args.n) args.out.now
+pub overflow_add-k : goal.overflow_add-k
+overflow_add-k c = omega (arith, length_slots c.args.page.now)
 
-pub overflow_add-at : goal.overflow_add-at
-overflow_add-at c = omega (arith, length_slots c.args.page.now)
+pub overflow_mul-k : goal.overflow_mul-k
+overflow_mul-k c = omega (arith, length_slots c.args.page.now)
 
-pub overflow_mul-at : goal.overflow_mul-at
-overflow_mul-at c = omega (arith, length_slots c.args.page.now)
-
-pub overflow_add-at-in-loop-i : goal.overflow_add-at-in-loop-i
-overflow_add-at-in-loop-i c = omega (arith, length_slots c.args.page.now)
+pub overflow_add-k-in-loop-i : goal.overflow_add-k-in-loop-i
+overflow_add-k-in-loop-i c = omega (arith, length_slots c.args.page.now)
 
 pub read_u32-line-requires : goal.read_u32-line-requires
 read_u32-line-requires c = omega (arith, length_slots c.args.page.now)

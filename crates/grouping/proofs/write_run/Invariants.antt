@@ -1,7 +1,6 @@
 -- `grouping::write_run` meets its contract. Assumes nothing.
-use mathlib.Core.Path.{◌≡◌}
 use mathlib.Core.List.{List}
-use Prim.Native.Nat.{◌*◌, ◌-◌}
+use Prim.Native.Nat.{◌*◌}
 use Rattle.numbers.specs.Bytes.{Bytes}
 use Rattle.slots.specs.Slots.{slot_size}
 use Rattle.pages.specs.Pages.{pieces}
@@ -16,7 +15,4 @@ abbrev pub slot_pieces : Bytes → Block → List Bytes
 slot_pieces form block = pieces (slots_in (group_of form block))
 
 abbrev pub invariant-loop-k : goal.invariant-loop-k
-invariant-loop-k l = (l.lines ≡ l.block.lines) × Writing slot_size (slot_size * l.i) (slot_pieces l.form l.block) l.initial.out l.out l.k
-
-abbrev pub decreases-loop-k : goal.decreases-loop-k
-decreases-loop-k l = l.block.count - l.k
+invariant-loop-k l = Writing slot_size (slot_size * l.i) (slot_pieces l.form l.block) l.initial.out l.out l.k
