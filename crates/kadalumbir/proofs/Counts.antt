@@ -39,8 +39,7 @@ use Rattle.one_name.proofs.CheckedLog.{logged}
 use Rattle.epoch_tree.specs.Tables.{max_entries, entries_of, entry_bytes, entry_pieces, keeps_table, added}
 use Rattle.epoch_tree.specs.declared.Step.{Step}
 use Rattle.epoch_tree.specs.declared.Step.TheVariants.{Stay, Up, Down}
-use Rattle.epochs.specs.declared.Next.{Next}
-use Rattle.epochs.specs.declared.Next.TheVariants as next
+use Rattle.epochs.specs.Calls.{Next}
 use Rattle.epoch_tree.specs.Tree.{next_step, after}
 use Rattle.epochs.specs.Calls.{epoch_tests, add_tests, check_table, step_index, index_in, answer_of, next_step_outcome, entry_by, add_outcome}
 use Rattle.epoch_tree.proofs.Walk.{walk_in}
@@ -196,15 +195,15 @@ add_count table parent author count room =
 
 -- a step counts nothing
 pub step_count : (x : Next) → count_of (answer_of x) < 4294967296
-step_count (next.Take s) = omega arith
-step_count (next.Err r) = omega arith
+step_count (Ok s) = omega arith
+step_count (Err r) = omega arith
 
 -- and leads to an index of the table, which a u32 holds
 pub step_index_lem : (table : Bytes) (current : ℕ) → index_in (next_step_outcome table current) < 4294967296
 unfolding next_step_outcome
 step_index_lem table current =
     let t = entries_of table in
-    whichever (λ x. index_in x < 4294967296) next.Err (next.Take (next_step t current)) (λ r. omega arith) (epoch_tests table current) (λ p.
+    whichever (λ x. index_in x < 4294967296) Err (Ok (next_step t current)) (λ r. omega arith) (epoch_tests table current) (λ p.
     let l = few_entries table p.0 in
     let w : after (next_step t current) current < length t = walk_in t (checked table p.0) 1 current (ltb-true current (length t) p.1.0) in
     inside (next_step t current) (omega arith)
