@@ -2,3 +2,4 @@ pub mod Refusals
 pub mod Outcomes
 pub mod AnswerLaws
 pub mod Settled
+pub mod Checked

@@ -14,7 +14,6 @@ use Rattle.answers.specs.Answers.{Outcome, in_order, refuse, write}
 use Rattle.pages.specs.Pages.{max_slots, slots_of, names_of, pieces, keeps_layout, rises}
 use Rattle.pages.specs.Places.{below, has, place_of}
 use Rattle.pages.specs.declared.Place.TheVariants.{Here, Gap}
-use Rattle.std.specs.declared.result.Result.TheVariants.{Ok}
 use Rattle.answers.specs.declared.Refusal.{Refusal}
 use Rattle.answers.specs.declared.Refusal.TheVariants.{Short, Present, Absent, Full}
 use Rattle.pages.proofs.SlotBySlot.{length_slots, length_names}
@@ -22,6 +21,7 @@ use Rattle.answers.proofs.Outcomes.{writes_short, writes}
 use Rattle.answers.specs.Laws.{Passed}
 use Rattle.answers.proofs.Refusals.{refuses, failed, goes_on_lem}
 use Rattle.pages.proofs.RoundTrip.{laid}
+use Rattle.std.specs.declared.result.Result.{Result}
 use Rattle.std.specs.declared.result.Result.TheVariants.{Ok, Err}
 use Rattle.edits.specs.Edits.{placed, without, edit_tests, insert_outcome, remove_outcome}
 use Rattle.edits.proofs.Placed.{placed_split, without_split, below_most, below_less, is_gap, is_here_lem}
@@ -29,14 +29,18 @@ use Rattle.edits.proofs.EditedBytes.{with_bytes, without_bytes}
 
 -- ── the tests that both begin with ──
 
-apart : (r : Refusal) → Err r ≡ (Ok tt) → ⊥
+-- what they tell, and that no refusal tells that all were passed
+abbrev pub told : Bytes → Bytes → Result Unit Refusal
+told page slot = in_order (edit_tests page slot) Err (Ok tt)
+
+apart : (r : Refusal) → ◌≡◌ {A = Result Unit Refusal} (Err r) (Ok tt) → ⊥
 apart r e = absurd (let z : ◌≡◌ {A = ℕ} 0 1 = cc in omega arith)
 
 module _ (page slot : Bytes) where
-  pub checked : in_order (edit_tests page slot) Err (Ok tt) ≡ (Ok tt) → Passed (edit_tests page slot)
+  pub checked : told page slot ≡ Ok tt → Passed (edit_tests page slot)
   checked e = goes_on_lem Err (Ok tt) apart (edit_tests page slot) e
 
-  pub turned_away : (r : Refusal) (next : Outcome) → in_order (edit_tests page slot) Err (Ok tt) ≡ Err r → in_order (edit_tests page slot) refuse next ≡ refuse r
+  pub turned_away : (r : Refusal) (next : Outcome) → told page slot ≡ Err r → in_order (edit_tests page slot) refuse next ≡ refuse r
   turned_away r next e = failed refuse next (edit_tests page slot) (refuses Err (Ok tt) apart (λ q r f. cc) (edit_tests page slot) e)
 
 -- ── insert ──
@@ -122,7 +126,7 @@ pub insert_present : (page slot : Bytes) (room k : ℕ) → Passed (edit_tests p
 unfolding insert_outcome
 insert_present page slot room k (layout, (slot_layout, (order, _))) e = rw (layout, slot_layout, order, (is_here_lem (name_of slot) (names_of page) k e).0)
 
-pub insert_refused : (page slot : Bytes) (room : ℕ) (r : Refusal) → in_order (edit_tests page slot) Err (Ok tt) ≡ Err r → insert_outcome page slot room ≡ refuse r
+pub insert_refused : (page slot : Bytes) (room : ℕ) (r : Refusal) → told page slot ≡ Err r → insert_outcome page slot room ≡ refuse r
 unfolding insert_outcome
 insert_refused page slot room r e = turned_away page slot r _ e
 
@@ -195,6 +199,6 @@ pub remove_absent : (page slot : Bytes) (room k : ℕ) → Passed (edit_tests pa
 unfolding remove_outcome
 remove_absent page slot room k (layout, (slot_layout, (order, _))) e = rw (layout, slot_layout, order, (is_gap (name_of slot) (names_of page) k e).0)
 
-pub remove_refused : (page slot : Bytes) (room : ℕ) (r : Refusal) → in_order (edit_tests page slot) Err (Ok tt) ≡ Err r → remove_outcome page slot room ≡ refuse r
+pub remove_refused : (page slot : Bytes) (room : ℕ) (r : Refusal) → told page slot ≡ Err r → remove_outcome page slot room ≡ refuse r
 unfolding remove_outcome
 remove_refused page slot room r e = turned_away page slot r _ e

@@ -12,17 +12,17 @@ ghost use Rattle.edits.specs.Edits.{edit_tests, insert_outcome, remove_outcome};
 
 use answers::{Answer, Refusal};
 use pages::{PAGE, Place};
-use slots::{SLOT, Seen};
+use slots::SLOT;
 
-// The page with the slot before slot k, from the start of out. What is copied is copied once.
+// The page with the slot before slot k, from the start of out. What is copied is copied once; `slot[..SLOT]` is all of the slot, in a length that
+// the compiler knows.
 fn write_with(page: &[u8], slot: &[u8], k: usize, out: &mut [u8])
     requires { (slot_size * k ≤ length page.now) × (length slot.now ≡ slot_size) × (length page.now + slot_size ≤ length out.old) }
     ensures { out.new ≡ put out.old 0 (take (slot_size * k) page.now ++ slot.now ++ drop (slot_size * k) page.now) }
 {
     let p = SLOT * k;
-    let all = SLOT;
     slots::copy_long(out, 0, &page[..p]);
-    numbers::copy(out, p, &slot[..all]);
+    numbers::copy(out, p, &slot[..SLOT]);
     slots::copy_long(out, p + SLOT, &page[p..]);
 }
 
@@ -37,25 +37,15 @@ fn write_without(page: &[u8], k: usize, out: &mut [u8])
     slots::copy_long(out, p, &page[q..]);
 }
 
-// What stands before an edit: a refusal, or none so far.
-#[derive(Clone, Copy)]
-enum Checked {
-    Refused(Refusal),
-    Passed,
-}
-
 // 1 (page), 1 (slot), 2. The slot is looked at first, since both refuse with 1.
-fn check_edit(page: &[u8], slot: &[u8]) -> Checked
+fn check_edit(page: &[u8], slot: &[u8]) -> Result<(), Refusal>
     ensures { result ≡ in_order (edit_tests page.now slot.now) Err (Ok tt) }
 {
     if !pages::slot_ok(slot) {
         return Err(Refusal::BadLayout);
     }
-    match pages::look(page) {
-        Seen::Broken => Err(Refusal::BadLayout),
-        Seen::NotRising => Err(Refusal::NotRising),
-        Seen::Rising => Ok(()),
-    }
+    pages::check_page(page)?;
+    Ok(())
 }
 
 // 11, 8; else the page with the slot before slot k, its rising place. The tests before these have passed.
@@ -94,10 +84,7 @@ pub fn insert(page: &[u8], slot: &[u8], out: &mut [u8]) -> Answer
     ensures value { result ≡ (insert_outcome page.now slot.now (length out.old)).answer }
     ensures out_after { out.new ≡ leaves (insert_outcome page.now slot.now (length out.old)) out.old }
 {
-    match check_edit(page, slot) {
-        Err(r) => return Err(r),
-        Ok(()) => {}
-    }
+    check_edit(page, slot)?;
     match pages::find(page, slot) {
         Place::Here(_) => Err(Refusal::Present),
         Place::Gap(k) => insert_at(page, slot, k, out),
@@ -109,10 +96,7 @@ pub fn remove(page: &[u8], slot: &[u8], out: &mut [u8]) -> Answer
     ensures value { result ≡ (remove_outcome page.now slot.now (length out.old)).answer }
     ensures out_after { out.new ≡ leaves (remove_outcome page.now slot.now (length out.old)) out.old }
 {
-    match check_edit(page, slot) {
-        Err(r) => return Err(r),
-        Ok(()) => {}
-    }
+    check_edit(page, slot)?;
     match pages::find(page, slot) {
         Place::Here(k) => remove_at(page, slot, k, out),
         Place::Gap(_) => Err(Refusal::Absent),

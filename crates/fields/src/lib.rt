@@ -15,15 +15,9 @@ const SIZE: usize = 1;
 // ── reading ──
 
 // A place in some bytes. What stands there is said of the bytes from there on.
-#[derive(Clone, Copy)]
+#[derive(Clone, Copy, Debug, PartialEq, Eq)]
 pub struct Cursor {
     pub at: usize,
-}
-
-fn wide(x: u16) -> usize
-    ensures { (result ≡ x) × (result ≤ longest_content) }
-{
-    x as usize
 }
 
 // How many bytes of content the field at the cursor says that it has.
@@ -31,7 +25,7 @@ pub fn size_at(bytes: &[u8], cursor: Cursor) -> usize
     requires { cursor.at + field_head ≤ length bytes.now }
     ensures { (result ≡ size_in (drop cursor.at bytes.now)) × (result ≤ longest_content) }
 {
-    wide(numbers::read_u16(bytes, cursor.at + SIZE))
+    usize::from(numbers::read_u16(bytes, cursor.at + SIZE))
 }
 
 // A field with this tag and a content of this many bytes stands whole at the cursor.
@@ -39,17 +33,11 @@ pub fn field_stands(bytes: &[u8], cursor: Cursor, tag: u8, size: usize) -> bool
     requires { cursor.at ≤ length bytes.now }
     ensures { result ≡ stands tag size (drop cursor.at bytes.now) }
 {
-    let at = cursor.at;
-    if bytes.len() - at < FIELD {
-        return false;
-    }
-    if bytes.len() - at - FIELD < size {
-        return false;
-    }
-    if bytes[at] != tag {
-        return false;
-    }
-    size_at(bytes, cursor) == size
+    let rest = bytes.len() - cursor.at;
+    rest >= FIELD
+        && rest - FIELD >= size
+        && bytes[cursor.at] == tag
+        && size_at(bytes, cursor) == size
 }
 
 // The place after the field at the cursor.

@@ -1,5 +1,5 @@
 -- 01's example of a listing, its refusals and its empty input, and offsets below 0. Assumes nothing.
-use Rattle.pages.specs.Pages.{layout_over, check_page}
+use Rattle.pages.specs.Pages.{layout_over, check_over}
 use mathlib.Core.Path.{◌≡◌, refl, ap}
 use mathlib.Core.List.{[], ◌∷◌, ◌++◌}
 use Prim.Native.Nat.{◌<◌}
@@ -33,7 +33,7 @@ least = let h : 2147483648 < 10000000000 = omega arith in ap (λ (l : Bytes). as
 
 -- "Empty input gives the header"
 pub empty : listing [] [] ≡ header
-unfolding listing check_page layout_over rising
+unfolding listing check_over layout_over rising
 empty = refl
 
 -- "A bad page gives only the line `refused 1` or `refused 2`"

@@ -13,13 +13,13 @@ use Rattle.numbers.specs.Bytes.{Bytes}
 use Rattle.numbers.proofs.Bools.{never}
 use Rattle.std.specs.declared.result.Result.TheVariants.{Err}
 use Rattle.answers.specs.declared.Refusal.TheVariants.{BadLayout}
-use Rattle.pages.specs.Pages.{keeps_layout, check_page}
+use Rattle.pages.specs.Pages.{keeps_layout, check_over, check_page}
 use Rattle.pages.proofs.RoundTrip.{laid}
 use Rattle.listing_text.specs.Listing.{listing}
 use Rattle.listing_text.specs.Laws.{page_size, WholeLaw}
 
 too_long : (s : Bytes) → page_size < length s → check_page s ≡ Err BadLayout
-unfolding check_page
+unfolding check_over
 too_long s h = rw (never (keeps_layout s) (λ e. let v = laid s e in omega (arith, v.whole, v.few)))
 
 pub listing_whole : WholeLaw

@@ -2,7 +2,7 @@
 
 #![tactic(auto)]
 
-ghost use Rattle.std.specs.Prelude.{◌≡◌, true, [], ◌∷◌, ◌++◌, ◌+◌, ◌*◌, ◌/◌, ◌≤◌, length, take, nat_abs};
+ghost use Rattle.std.specs.Prelude.{◌≡◌, true, [], ◌∷◌, ◌++◌, ◌+◌, ◌*◌, ◌/◌, ◌≤◌, length, take};
 ghost use Rattle.numbers.specs.Bytes.{put};
 ghost use Rattle.slots.specs.Tuples.{tuples_at, tuple_size};
 ghost use Rattle.slots.specs.Slots.{slot_size, depth_of, slot_of};
@@ -34,7 +34,8 @@ pub const TEXT: usize = HEADER_TEXT + SLOTS * LINE;
 pub const HEADER: [u8; HEADER_TEXT] = *b"line depth name\n";
 
 // Each function `put_..` writes a text into out from p on and answers where it ends. It requires room for the most bytes
-// that the text takes, and promises the whole output.
+// that the text takes, and promises the whole output. std's `Display` and `Write` do not take their place: they promise what is
+// written where the answer is Ok, and never that it is, and `list` cannot fail.
 
 fn put_byte(out: &mut [u8], p: usize, b: u8) -> usize
     requires { p + 1 ≤ length out.old }
@@ -44,7 +45,8 @@ fn put_byte(out: &mut [u8], p: usize, b: u8) -> usize
     p + 1
 }
 
-// "all in decimal": the digits before the last, which are those of n / 10, and the last.
+// "all in decimal": the digits before the last, which are those of n / 10, and the last. As a loop it would find the last digit first, and
+// need bytes of its own to turn them round.
 fn put_decimal(out: &mut [u8], p: usize, n: u32) -> usize
     requires { p + number_room ≤ length out.old }
     ensures value { (result ≡ p + length (decimal n)) × (out.new ≡ put out.old p (decimal n)) }
@@ -58,28 +60,17 @@ fn put_decimal(out: &mut [u8], p: usize, n: u32) -> usize
     put_byte(out, q, last)
 }
 
-// A number without its sign. That of the least i32 is no i32: one is added to what fits.
-fn magnitude(z: i32) -> u32
-    ensures { result ≡ nat_abs z }
-{
-    if 0 <= z {
-        return z as u32;
-    }
-    ((-1 - z) as u32) + 1
-}
-
 // "a negative offset with `-`"
 fn put_offset(out: &mut [u8], p: usize, z: i32) -> usize
     requires { p + offset_room ≤ length out.old }
     ensures value { (result ≡ p + length (decimal_ℤ z)) × (out.new ≡ put out.old p (decimal_ℤ z)) }
     ensures upper_bound { result ≤ p + offset_room }
 {
-    let n = magnitude(z);
-    if 0 <= z {
-        return put_decimal(out, p, n);
+    if !z.is_negative() {
+        return put_decimal(out, p, z.unsigned_abs());
     }
     let q = put_byte(out, p, b'-');
-    put_decimal(out, q, n)
+    put_decimal(out, q, z.unsigned_abs())
 }
 
 // A number and what stands after it.
@@ -98,8 +89,8 @@ fn put_tuple(out: &mut [u8], p: usize, t: Tuple) -> usize
     ensures value { (result ≡ p + length (tuple_text t)) × (out.new ≡ put out.old p (tuple_text t)) }
     ensures upper_bound { result ≤ p + tuple_room }
 {
-    let node = put_number(out, p, t.position as u32, b'.');
-    let sequence = put_number(out, node, t.node as u32, b'.');
+    let node = put_number(out, p, u32::from(t.position), b'.');
+    let sequence = put_number(out, node, u32::from(t.node), b'.');
     let offset = put_number(out, sequence, t.sequence, b'.');
     put_offset(out, offset, t.offset)
 }
@@ -110,12 +101,12 @@ fn put_name(out: &mut [u8], p: usize, s: &[u8], at: usize, n: usize) -> usize
     ensures value { (result ≡ p + length (name_text (tuples_at s.now at n))) × (out.new ≡ put out.old p (name_text (tuples_at s.now at n))) }
     ensures result_bound { result + 1 ≤ p + (tuple_room + 1) * n }
 {
-    let end = put_tuple(out, p, slots::read_tuple(s, at));
-    if n < 2 {
-        return end;
+    let mut end = put_tuple(out, p, slots::read_tuple(s, at));
+    for k in 1..n {
+        let next = put_byte(out, end, b'/');
+        end = put_tuple(out, next, slots::read_tuple(s, at + TUPLE * k));
     }
-    let next = put_byte(out, end, b'/');
-    put_name(out, next, s, at + TUPLE, n - 1)
+    end
 }
 
 // "per slot: line number, depth, and the tuples .., each line ended by one newline"
@@ -154,14 +145,10 @@ fn put_lines(out: &mut [u8], p: usize, page: &[u8]) -> usize
     ensures value { (result ≡ p + length (lines_text (slots_of page.now))) × (out.new ≡ put out.old p (lines_text (slots_of page.now))) }
     ensures upper_bound { result ≤ p + line_room * (length page.now / slot_size) }
 {
-    let n = page.len() / SLOT;
+    let (slots, _) = page.as_chunks::<SLOT>();
     let mut q = p;
-    let mut k: usize = 0;
-    while k < n {
-        let at = SLOT * k;
-        let end = at + SLOT;
-        q = put_line(out, q, &page[at..end]);
-        k += 1;
+    for slot in slots {
+        q = put_line(out, q, slot);
     }
     q
 }
@@ -180,7 +167,7 @@ fn put_refused(out: &mut [u8], p: usize, n: u32) -> usize
 fn check_input(page: &[u8], rest: &[u8]) -> Answer
     ensures { result ≡ check_input page.now rest.now }
 {
-    if rest.len() != 0 {
+    if !rest.is_empty() {
         return Err(Refusal::BadLayout);
     }
     pages::check_page(page)
@@ -192,12 +179,11 @@ pub fn list(page: &[u8], rest: &[u8], out: &mut [u8; TEXT]) -> usize
     ensures value { (result ≡ length (listing page.now rest.now)) × (out.new ≡ put out.old 0 (listing page.now rest.now)) }
     ensures upper_bound { (result ≤ length out.new) × (result ≡ length (take result out.new)) }
 {
-    let answer = check_input(page, rest);
-    match answer {
+    match check_input(page, rest) {
         Ok(_) => {
             let p = put_header(out, 0);
             put_lines(out, p, page)
         }
-        Err(_) => put_refused(out, 0, answers::number(answer)),
+        Err(r) => put_refused(out, 0, u32::from(r)),
     }
 }

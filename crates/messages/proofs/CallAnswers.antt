@@ -32,7 +32,7 @@ use Rattle.messages.proofs.BareSlots.{bare_slots}
 
 -- a refusal is not an acceptance
 no_count : {A : Type 0} {r : Refusal} {n : ℕ} {a : Answer} → a ≡ Err r → a ≡ Ok n → A
-no_count e f = absurd (let z : ◌≡◌ {A = ℕ} 0 1 = cc in omega arith)
+no_count e f = absurd (cc)
 
 abbrev answered : {x y : Outcome} → x ≡ y → x.answer ≡ y.answer
 answered e = ap (λ (o : Outcome). o.answer) e
@@ -63,14 +63,14 @@ module _ (l : List Bytes) (room : ℕ) where
         by : RefusedBy Malformed tests (write l room) → b ≡ false
         by (test (Rattle.answers.specs.Laws.later _ x7)) = elim x7 [ ]
         by (test (here p q)) = p
-        by (after p f) = absurd (let short = (write_refuses l room f).0 in let z : ◌≡◌ {A = ℕ} 0 1 = cc in omega arith)
+        by (after p f) = let short = (write_refuses l room f).0 in absurd (cc)
 
     is_short : (outcome (b else Malformed ∷ []) l room).answer ≡ Err Short → (b ≡ true) × (room < length (flatten l))
     is_short e = by (refused_first (write l room) tests e)
       where
         by : RefusedBy Short tests (write l room) → (b ≡ true) × (room < length (flatten l))
         by (test (Rattle.answers.specs.Laws.later _ x7)) = elim x7 [ ]
-        by (test (here p q)) = absurd (let z : ◌≡◌ {A = ℕ} 0 1 = cc in omega arith)
+        by (test (here p q)) = absurd (cc)
         by (after p f) = (p.0, (write_refuses l room f).1)
 
     is_done : {n : ℕ} → (outcome (b else Malformed ∷ []) l room).answer ≡ Ok n → (b ≡ true) × (length (flatten l) ≤ room) × (n ≡ length l)

@@ -12,7 +12,7 @@ use pages::SLOTS;
 
 // "Reading gives kind, epoch, author, line number (0 unless insert) and the names": all of it but the names. An epoch goes by the
 // author of the rename that began it, the first epoch by zeros.
-#[derive(Clone, Copy)]
+#[derive(Clone, Copy, Debug, PartialEq, Eq)]
 pub struct Numbers {
     pub kind: u8,
     pub epoch: Author,
@@ -20,7 +20,8 @@ pub struct Numbers {
     pub line: u32,
 }
 
-// "1 insert, 2 remove, 3 rename"
+// "1 insert, 2 remove, 3 rename". Kinds are numbers and no enum: `numbers_ok` and `most_names`, and the C functions that stand on them,
+// take any byte there.
 pub const INSERT: u8 = 1;
 
 const RENAME: u8 = 3;
@@ -56,53 +57,35 @@ pub const NAMES: usize = AUTHOR + FIELD + PAIR;
 fn kind_ok(kind: u8) -> bool
     ensures { result ≡ is_kind kind }
 {
-    if kind < INSERT {
-        return false;
-    }
-    kind <= RENAME
+    matches!(kind, INSERT..=RENAME)
 }
 
 // "six zeros for the first epoch; node 0 with another sequence is malformed"
 fn epoch_ok(epoch: Author) -> bool
     ensures { result ≡ is_epoch epoch }
 {
-    if epoch.node < 1 {
-        return epoch.sequence == 0;
-    }
-    true
+    epoch.node >= 1 || epoch.sequence == 0
 }
 
 // "author, 6 bytes, node at least 1"
 fn author_ok(author: Author) -> bool
     ensures { result ≡ is_author author }
 {
-    1 <= author.node
+    author.node >= 1
 }
 
 // "a line number other than 0 where the kind isn't insert"
 fn line_ok(kind: u8, line: u32) -> bool
     ensures { result ≡ is_line kind line }
 {
-    if kind == INSERT {
-        return true;
-    }
-    line == 0
+    kind == INSERT || line == 0
 }
 
 // "a bad kind, epoch, author .., a line number other than 0 where the kind isn't insert"
 pub fn numbers_ok(x: Numbers) -> bool
     ensures { result ≡ (is_kind x.kind && is_epoch x.epoch && is_author x.author && is_line x.kind x.line) }
 {
-    if !kind_ok(x.kind) {
-        return false;
-    }
-    if !epoch_ok(x.epoch) {
-        return false;
-    }
-    if !author_ok(x.author) {
-        return false;
-    }
-    line_ok(x.kind, x.line)
+    kind_ok(x.kind) && epoch_ok(x.epoch) && author_ok(x.author) && line_ok(x.kind, x.line)
 }
 
 // "for insert tag 4 ..; for remove one tag 4; for rename 1..256 tags 4": the most names.

@@ -1,21 +1,20 @@
--- A name's field at the place p of some bytes s, under any tag, told by the bytes of s (`name_at`, `tuples_at_lem`), with how far it reaches
+-- A name's field at the place p of some bytes s, under any tag: where in s its tuples stand (`tuples_at_lem`), and how far it reaches
 -- (`name_long`); what the code has found there (`field_tuples`, `field_nothing`), and where the tuples then stand (`Found`). The length of
 -- the field of a name that stands in s (`field_size`). Assumes nothing.
 use mathlib.Core.Path.{◌≡◌, refl, sym, ap, ◌∙◌}
-use mathlib.Core.Bool.{Bool, true, false, cond, ◌&&◌, and-true}
+use mathlib.Core.Bool.{Bool, true, false, cond}
 use Prim.Native.Nat.{ℕ, ◌+◌, ◌*◌, ◌/◌, ◌%◌, ◌≤◌}
 use native.Mathlib.Omega.{arith}
-use borrow.Author.Tests.{eq-eqb}
-use lib.Dec.{leb, eqb}
-use lib.ListN.{length, drop, get_or}
+use lib.Dec.{eqb}
+use lib.ListN.{length, drop}
+use Rattle.std.specs.Prelude.{Some, None}
 use Rattle.numbers.proofs.Bools.{and_0}
-use Rattle.numbers.specs.Bytes.{Bytes, at16}
+use Rattle.numbers.specs.Bytes.{Bytes}
 use Rattle.slots.specs.declared.Span.{Span}
 use Rattle.slots.specs.Tuples.{tuple_size, tuples_at, row_at, Within}
 use Rattle.slots.proofs.TuplesInBytes.{tuples_on, length_tuples_at}
 use Rattle.fields.specs.Fields.{field_head, size_in, stands}
-use Rattle.fields.proofs.FieldAt.{size_at, stands_at, stands_long}
-use Rattle.name_fields.specs.declared.NameField.TheVariants.{Tuples, Nothing}
+use Rattle.fields.proofs.FieldAt.{stands_long}
 use Rattle.name_fields.specs.NameFields.{field_of_name, name_stands_as, tuples_in, field_in}
 use Rattle.name_fields.proofs.NameInverse.{name_length, name_whole}
 
@@ -26,14 +25,6 @@ module _ (s : Bytes) (p : ℕ) where
       ∙ ap (λ (k : ℕ). tuples_at (drop p s) field_head (k / tuple_size)) e
 
 module _ (tag : ℕ) (s : Bytes) (p : ℕ) where
-  pub name_at : name_stands_as tag (drop p s)
-      ≡ leb (p + (field_head + at16 s (p + 1))) (length s) && eqb (get_or s p 0) tag && eqb (at16 s (p + 1) % tuple_size) 0
-  name_at =
-      let n = at16 s (p + 1) in
-      let long = leb (p + (field_head + n)) (length s) && eqb (get_or s p 0) tag in
-      ap (λ (k : ℕ). stands tag k (drop p s) && eqb (k % tuple_size) 0) (size_at s p)
-      ∙ ap (λ (b : Bool). b && eqb (n % tuple_size) 0) (stands_at s p tag n ∙ ap (λ (b : Bool). long && b) (eq-eqb n n refl) ∙ and-true long)
-
   -- what stands ends within s
   pub name_long : name_stands_as tag (drop p s) ≡ true → p + (field_head + size_in (drop p s)) ≤ length s
   name_long e =
@@ -46,19 +37,19 @@ field_size tag s x = name_length tag (row_at s x) ∙ ap (λ (n : ℕ). field_he
 
 -- ── what the code has found ──
 
-tuples_told : (b : Bool) (m n : ℕ) → cond b (Tuples m) Nothing ≡ Tuples n → (b ≡ true) × (m ≡ n)
-tuples_told true m n e = (refl, let same : Tuples m ≡ Tuples n = e in cc)
-tuples_told false m n e = absurd (let z : ◌≡◌ {A = ℕ} 0 1 = cc in omega arith)
+tuples_told : (b : Bool) (m n : ℕ) → cond b (Some m) None ≡ Some n → (b ≡ true) × (m ≡ n)
+tuples_told true m n e = (refl, cc)
+tuples_told false m n e = absurd (cc)
 
-nothing_told_lem : (b : Bool) (m : ℕ) → cond b (Tuples m) Nothing ≡ Nothing → b ≡ false
-nothing_told_lem true m e = absurd (let z : ◌≡◌ {A = ℕ} 0 1 = cc in omega arith)
+nothing_told_lem : (b : Bool) (m : ℕ) → cond b (Some m) None ≡ None → b ≡ false
+nothing_told_lem true m e = absurd (cc)
 nothing_told_lem false m e = refl
 
 module _ (tag : ℕ) (t : Bytes) where
-  pub field_tuples : (n : ℕ) → field_in tag t ≡ Tuples n → (name_stands_as tag t ≡ true) × (size_in t / tuple_size ≡ n)
+  field_tuples : (n : ℕ) → field_in tag t ≡ Some n → (name_stands_as tag t ≡ true) × (size_in t / tuple_size ≡ n)
   field_tuples n e = tuples_told (name_stands_as tag t) (size_in t / tuple_size) n e
 
-  pub field_nothing : field_in tag t ≡ Nothing → name_stands_as tag t ≡ false
+  pub field_nothing : field_in tag t ≡ None → name_stands_as tag t ≡ false
   field_nothing e = nothing_told_lem (name_stands_as tag t) (size_in t / tuple_size) e
 
 -- a name's field of n tuples was found at p: where the tuples stand, and where the field ends
@@ -68,7 +59,7 @@ pub record Found (tag : ℕ) (s : Bytes) (p n : ℕ) : Type 0 where
   pub is : row_at s (record { at = p + field_head; count = n }) ≡ tuples_in (drop p s)
   pub end : p + field_head + tuple_size * n ≡ p + (field_head + size_in (drop p s))
 
-pub found : (tag : ℕ) (s : Bytes) (p n : ℕ) → field_in tag (drop p s) ≡ Tuples n → Found tag s p n
+pub found : (tag : ℕ) (s : Bytes) (p n : ℕ) → field_in tag (drop p s) ≡ Some n → Found tag s p n
 found tag s p n e =
     let t = drop p s in
     let f = field_tuples tag t n e in

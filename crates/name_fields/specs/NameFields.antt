@@ -1,12 +1,10 @@
 -- Names in fields: document 01, "Messages": "a name's tuples, 12 bytes each". Under which tag a name stands is said by who uses it.
-use Rattle.std.specs.Prelude.{ℕ, ◌/◌, ◌%◌, Bool, cond, ◌&&◌, eqb}
+use Rattle.std.specs.Prelude.{ℕ, ◌/◌, ◌%◌, Bool, cond, ◌&&◌, Option, Some, None, eqb}
 use Rattle.names.specs.Ordering.{Row}
 use Rattle.names.specs.Names.{fits, is_name}
 use Rattle.numbers.specs.Bytes.{Bytes}
 use Rattle.slots.specs.Tuples.{tuple_size, tuples_at, row_bytes}
 use Rattle.fields.specs.Fields.{field_head, size_in, stands, field_bytes}
-use Rattle.name_fields.specs.declared.NameField.{NameField}
-use Rattle.name_fields.specs.declared.NameField.TheVariants.{Tuples, Nothing}
 
 -- a name, which has "at most eight tuples" (02, P8: sixteen)
 abbrev pub name_fits : Row → Bool
@@ -27,6 +25,6 @@ name_stands_as tag s = stands tag (size_in s) s && eqb (size_in s % tuple_size) 
 abbrev pub tuples_in : Bytes → Row
 tuples_in s = tuples_at s field_head (size_in s / tuple_size)
 
--- what stands there, as the code says it (`NameField`, src/lib.rt): the field with how many tuples it has, or none
-abbrev pub field_in : ℕ → Bytes → NameField
-field_in tag s = cond (name_stands_as tag s) (Tuples (size_in s / tuple_size)) Nothing
+-- what stands there, as the code says it (`name_field`, src/lib.rt): how many tuples a whole field has, or nothing where there is none
+abbrev pub field_in : ℕ → Bytes → Option ℕ
+field_in tag s = cond (name_stands_as tag s) (Some (size_in s / tuple_size)) None

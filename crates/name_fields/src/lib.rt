@@ -11,30 +11,18 @@ ghost use Rattle.name_fields.specs.NameFields.{field_of_name, field_in};
 use fields::{Cursor, FIELD};
 use slots::{Span, TUPLE};
 
-// What stands at a cursor: the whole field of a name, with how many tuples it has, or none.
-#[derive(Clone, Copy)]
-pub enum NameField {
-    Tuples(usize),
-    Nothing,
-}
-
-// "a name's tuples, 12 bytes each". Their number is found once, with the test that the content is a whole number of them.
-pub fn name_field(bytes: &[u8], cursor: Cursor, tag: u8) -> NameField
+// How many tuples stand in the whole field of a name at the cursor, or None where there is no such field: "a name's tuples, 12 bytes
+// each". Their number is found once, with the test that the content is a whole number of them.
+pub fn name_field(bytes: &[u8], cursor: Cursor, tag: u8) -> Option<usize>
     requires { cursor.at ≤ length bytes.now }
     ensures { result ≡ field_in tag (drop cursor.at bytes.now) }
 {
     if bytes.len() - cursor.at < FIELD {
-        return NameField::Nothing;
+        return None;
     }
     let size = fields::size_at(bytes, cursor);
-    if !fields::field_stands(bytes, cursor, tag, size) {
-        return NameField::Nothing;
-    }
-    let count = size / TUPLE;
-    if TUPLE * count < size {
-        return NameField::Nothing;
-    }
-    NameField::Tuples(count)
+    let whole = fields::field_stands(bytes, cursor, tag, size) && size.is_multiple_of(TUPLE);
+    whole.then_some(size / TUPLE)
 }
 
 // The field of a name that stands in s, and the place after it.

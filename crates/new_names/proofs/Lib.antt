@@ -1,5 +1,6 @@
 pub mod Prefixes
 pub mod Rules
 pub mod PartsOfNames
+pub mod GapTests
 pub mod NewNames
 pub mod Settled

@@ -4,43 +4,45 @@ use mathlib.Core.List.{[], ◌∷◌, ◌++◌}
 use mathlib.Core.Option.{Option, some}
 use Prim.Native.Nat.{ℕ, ◌+◌, ◌*◌, ◌<◌, ◌≤◌}
 use native.Mathlib.Omega.{arith}
+use borrow.Author.Tests.{le-leb, lt-leb}
 use lib.ListN.{length, take, get_or, length-take, length-append, get_or-append}
 use lib.Seq.{take-append-add, get_or_at, get_or-append-add}
 use Rattle.names.specs.declared.Tuple.{Tuple}
 use Rattle.names.specs.Ordering.{Row}
 use Rattle.names.specs.Names.{limit, m}
-use Rattle.name_values.proofs.JoinedRows.{joined_fits, joined_deep}
 use Rattle.numbers.specs.Bytes.{Bytes}
 use Rattle.slots.specs.declared.Span.{Span}
 use Rattle.slots.specs.Tuples.{tuple_at, tuple_size, row_at, Lies}
 use Rattle.slots.proofs.TuplesInBytes.{length_tuples_at, get_or_tuples_at}
-use Rattle.std.specs.declared.result.Result.TheVariants.{Ok}
+use Rattle.std.specs.declared.result.Result.{Result}
+use Rattle.std.specs.declared.result.Result.TheVariants.{Ok, Err}
+use Rattle.answers.specs.declared.Refusal.{Refusal}
 use Rattle.answers.specs.declared.Refusal.TheVariants.{TooDeep}
 use Rattle.new_names.specs.declared.Parts.{Parts}
-use Rattle.new_names.specs.NewNames.{refuse_name, answer_name}
+use Rattle.new_names.specs.NewNames.{answer_name}
 use Rattle.new_names.specs.FoundParts.{parts_of, Means}
 
 -- what is meant by an outcome of the rule is meant by an equal one
-pub given : (s : Bytes) (p : Parts) {o o' : Option Row} → o ≡ o' → Means s p (answer_name o) → Means s p (answer_name o')
-given s p e w = subst (λ (o : Option Row). Means s p (answer_name o)) e w
+pub given : (s : Bytes) (r : Result Parts Refusal) {o o' : Option Row} → o ≡ o' → Means s r (answer_name o) → Means s r (answer_name o')
+given s r e w = subst (λ (o : Option Row). Means s r (answer_name o)) e w
 
 module _ (s : Bytes) (a : Span) where
   len : length (row_at s a) ≡ a.count
   len = length_tuples_at s a.at a.count
 
   -- 6
-  pub deep : (p : Parts) (x : Row) → limit < a.count + length x → Means s p (refuse_name TooDeep) → Means s p (answer_name (some (row_at s a ++ x)))
-  deep p x h w = rw (sym (joined_deep (row_at s a) x (omega (arith, len)))) w
+  pub deep : (x : Row) → limit < a.count + length x → Means s (Err TooDeep) (answer_name (some (row_at s a ++ x)))
+  deep x h = rw (lt-leb (length (row_at s a ++ x)) limit (omega (arith, len, length-append (row_at s a) x))) refl
 
   -- the tuples at a, and k of two more
   module _ (t u : Tuple) where
     pub grown : (k : ℕ) → k ≤ 2 → a.count + k ≤ limit → Lies s a →
-        Means s (record { answer = Ok 0; a = a; first = t; second = u; depth = a.count + k }) (answer_name (some (row_at s a ++ take k (t ∷ u ∷ []))))
+        Means s (Ok (record { a = a; first = t; second = u; depth = a.count + k })) (answer_name (some (row_at s a ++ take k (t ∷ u ∷ []))))
     grown k h f l =
         let x = t ∷ u ∷ [] in
-        let g : length (row_at s a) + length (take k x) ≤ limit = omega (arith, len, length-take k x) in
+        let g : length (row_at s a ++ take k x) ≤ limit = omega (arith, len, length-take k x, length-append (row_at s a) (take k x)) in
         let e = ap (λ (n : ℕ). take (n + k) (row_at s a ++ x)) (sym len) ∙ take-append-add (row_at s a) x k in
-        rw (sym (joined_fits (row_at s a) (take k x) g)) ((l, omega arith, f), refl, e)
+        rw (le-leb (length (row_at s a ++ take k x)) limit g) ((l, omega arith, f), refl, e)
 
 module _ (s : Bytes) (p : Parts) where
   pub parts_length : length (parts_of s p) ≡ p.a.count + 2

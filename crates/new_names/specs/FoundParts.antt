@@ -1,11 +1,14 @@
--- What the code finds before it makes a name: the answer, and of which tuples the name is made. Document 01, "New names".
+-- What the code finds before it makes a name: of which tuples it is made, or a refusal. Document 01, "New names".
 use Rattle.std.specs.Prelude.{◌+◌, ◌≤◌, ◌≡◌, [], ◌∷◌, ◌++◌, take}
 use Rattle.names.specs.Ordering.{Row}
 use Rattle.names.specs.Names.{limit}
 use Rattle.numbers.specs.Bytes.{Bytes}
 use Rattle.slots.specs.Tuples.{row_at, Lies}
+use Rattle.std.specs.declared.result.Result.{Result}
+use Rattle.std.specs.declared.result.Result.TheVariants.{Ok, Err}
+use Rattle.answers.specs.declared.Refusal.{Refusal}
 use Rattle.new_names.specs.declared.Parts.{Parts}
-use Rattle.new_names.specs.NewNames.{Named}
+use Rattle.new_names.specs.NewNames.{Named, refuse_name}
 
 module _ (s : Bytes) (p : Parts) where
   -- the tuples that stand in s, and two more
@@ -20,6 +23,8 @@ module _ (s : Bytes) (p : Parts) where
   abbrev pub Stands : Type 0
   Stands = Lies s p.a × (p.depth ≤ p.a.count + 2) × (p.depth ≤ limit)
 
-  -- the answer and the name are those
-  abbrev pub Means : Named → Type 0
-  Means x = Stands × (p.answer ≡ x.answer) × (made_of ≡ x.name)
+-- the name of these, or the refusal, is what is meant
+module _ (s : Bytes) where
+  abbrev pub Means : Result Parts Refusal → Named → Type 0
+  Means (Ok p) x = Stands s p × (x.answer ≡ Ok 0) × (made_of s p ≡ x.name)
+  Means (Err r) x = x ≡ refuse_name r

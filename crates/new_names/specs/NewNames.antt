@@ -5,6 +5,7 @@ use Rattle.std.proofs.Math.Option.{Option, none, some}
 use Rattle.std.specs.Int.Signed.{non_neg}
 use Rattle.names.specs.declared.Author.{Author}
 use Rattle.names.specs.declared.Tuple.{Tuple}
+use Rattle.names.specs.declared.Name.{Name}
 use Rattle.names.specs.Ordering.{Row, compare_tuples}
 use Rattle.std.specs.Ordering.{is_eq}
 use Rattle.names.specs.Names.{fits, lowered, value_of}
@@ -12,10 +13,10 @@ use Rattle.numbers.specs.Bytes.{Bytes}
 use Rattle.answers.specs.declared.Refusal.{Refusal}
 use Rattle.answers.specs.declared.Refusal.TheVariants.{BadLayout, NotRising, NoAuthor, NoGap, NoNewName, TooDeep}
 use Rattle.answers.specs.Answers.{Answer}
+use Rattle.std.specs.declared.result.Result.{Result}
 use Rattle.std.specs.declared.result.Result.TheVariants.{Ok, Err}
 use Rattle.answers.specs.Answers.{Test, ◌else◌, in_order}
 use Rattle.pages.specs.Pages.{slots_of, names_of, keeps_layout, rises}
-use Rattle.new_names.specs.declared.NewName.{NewName}
 
 -- "First positions count 0 for a missing a and 65535 for a missing b."
 abbrev pub first_before : Row → ℕ
@@ -92,6 +93,7 @@ new_name_outcome page gap author =
     in_order (gap_tests page gap author) refuse_name
     (answer_name (new_name author (name_before gap (names_of page)) (name_after gap (names_of page))))
 
--- what the code gives, a `NewName` with its name as a value, says the same
-abbrev pub Says : NewName → Named → Type 0
-Says r x = (r.answer ≡ x.answer) × (r.name ≡ value_of x.name)
+-- what the code gives, a name by value or a refusal, says the same
+abbrev pub Says : Result Name Refusal → Named → Type 0
+Says (Ok name) x = (x.answer ≡ Ok 0) × (name ≡ value_of x.name)
+Says (Err r) x = x ≡ refuse_name r

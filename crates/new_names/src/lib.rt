@@ -9,12 +9,12 @@ ghost use Rattle.names.specs.Names.{limit, value_of, m};
 ghost use Rattle.numbers.specs.Bytes.{Bytes};
 ghost use Rattle.slots.specs.Tuples.{row_at, Within, Lies};
 ghost use Rattle.pages.specs.Pages.{names_of};
-ghost use Rattle.new_names.specs.NewNames.{first_before, first_after, rest, own as own_tuple, before_tuple, close_by, new_name, name_before, refuse_name, answer_name, new_name_outcome, Says};
+ghost use Rattle.new_names.specs.NewNames.{first_before, first_after, rest, own as own_tuple, before_tuple, close_by, new_name, name_before, answer_name, new_name_outcome, Says};
 ghost use Rattle.new_names.specs.FoundParts.{parts_of, made_of, Stands, Means};
 
-use answers::{Answer, Refusal};
+use answers::Refusal;
 use names::{Author, LIMIT, Name, Tuple};
-use slots::{SLOT, Seen, Span, TUPLE};
+use slots::{Span, TUPLE};
 
 // "First positions count 0 for a missing a and 65535 for a missing b."
 const LOWEST: u32 = 0;
@@ -24,35 +24,13 @@ const HIGHEST: u32 = 65535;
 // The position of a new tuple that only has to follow what stands before it: half way.
 const MIDDLE: u16 = 32768;
 
-// What comes back: the answer, and the name, which a refusal does not have.
-#[derive(Clone, Copy)]
-pub struct NewName {
-    pub answer: Answer,
-    pub name: Name,
-}
-
-// What the rule finds before a name is made: the answer, and of what the name is made: of the tuples that stand at `a` and two more,
-// the first `depth`.
+// Of what a name is made: of the tuples that stand at `a` and two more, the first `depth`.
 #[derive(Clone, Copy)]
 struct Parts {
-    answer: Answer,
     a: Span,
     first: Tuple,
     second: Tuple,
     depth: usize,
-}
-
-fn refused(r: Refusal) -> Parts
-    ensures { (s : Bytes) → Means s result (refuse_name r) }
-{
-    let zero = name_values::low_marker();
-    Parts {
-        answer: Err(r),
-        a: Span { at: 0, count: 0 },
-        first: zero,
-        second: zero,
-        depth: 0,
-    }
 }
 
 // "author's node and sequence, offset 0"
@@ -68,45 +46,37 @@ fn own(author: Author, position: u16) -> Tuple
 }
 
 // a·t, or 6 where that has too many tuples.
-fn one_more(a: Span, t: Tuple) -> Parts
+fn one_more(a: Span, t: Tuple) -> Result<Parts, Refusal>
     requires { a.count ≤ limit }
     ensures { (s : Bytes) → Lies s a → Means s result (answer_name (some (row_at s a ++ (t ∷ [])))) }
 {
     let depth = a.count + 1;
     if LIMIT < depth {
-        return refused(Refusal::TooDeep);
+        return Err(Refusal::TooDeep);
     }
-    Parts {
-        answer: Ok(0),
+    Ok(Parts {
         a,
         first: t,
         second: t,
         depth,
-    }
+    })
 }
 
 // a·t·u, or 6 where that has too many tuples.
-fn two_more(a: Span, t: Tuple, u: Tuple) -> Parts
+fn two_more(a: Span, t: Tuple, u: Tuple) -> Result<Parts, Refusal>
     requires { a.count ≤ limit }
     ensures { (s : Bytes) → Lies s a → Means s result (answer_name (some (row_at s a ++ (t ∷ u ∷ [])))) }
 {
     let depth = a.count + 2;
     if LIMIT < depth {
-        return refused(Refusal::TooDeep);
+        return Err(Refusal::TooDeep);
     }
-    Parts {
-        answer: Ok(0),
+    Ok(Parts {
         a,
         first: t,
         second: u,
         depth,
-    }
-}
-
-fn wide(x: u16) -> u32
-    ensures { (result ≡ x) × (result ≤ 65535) }
-{
-    x as u32
+    })
 }
 
 // The position of a's first tuple; a may be missing.
@@ -117,7 +87,7 @@ fn first_before(page: &[u8], a: Span) -> u32
     if a.count < 1 {
         return LOWEST;
     }
-    wide(numbers::read_u16(page, a.at))
+    u32::from(numbers::read_u16(page, a.at))
 }
 
 // The position of b's first tuple; b may be missing.
@@ -128,7 +98,7 @@ fn first_after(page: &[u8], b: Span) -> u32
     if b.count < 1 {
         return HIGHEST;
     }
-    wide(numbers::read_u16(page, b.at))
+    u32::from(numbers::read_u16(page, b.at))
 }
 
 // a is a prefix of b: of b's tuples the first, as many as a has, are a's. What follows a are then b's tuples from a's count on.
@@ -144,7 +114,7 @@ fn is_prefix(page: &[u8], a: Span, b: Span) -> bool
 
 // "If y's position is 2 or more: a·(half that position rounded down, node, sequence, 0). If it is 1 and y's offset is at
 // least 0: a·(y one offset lower)·(32768, node, sequence, 0). Otherwise answer 12."
-fn before_tuple(a: Span, y: Tuple, author: Author) -> Parts
+fn before_tuple(a: Span, y: Tuple, author: Author) -> Result<Parts, Refusal>
     requires { a.count ≤ limit }
     ensures { (s : Bytes) → Lies s a → Means s result (answer_name (before_tuple author (row_at s a) y)) }
 {
@@ -152,16 +122,16 @@ fn before_tuple(a: Span, y: Tuple, author: Author) -> Parts
         return one_more(a, own(author, y.position / 2));
     }
     if y.position != 1 {
-        return refused(Refusal::NoNewName);
+        return Err(Refusal::NoNewName);
     }
     if !name_values::not_below_zero(y.offset) {
-        return refused(Refusal::NoNewName);
+        return Err(Refusal::NoNewName);
     }
     two_more(a, name_values::one_lower(y), own(author, MIDDLE))
 }
 
 // "3. Else a·(32768, node, sequence, 0)."
-fn right_after(a: Span, author: Author) -> Parts
+fn right_after(a: Span, author: Author) -> Result<Parts, Refusal>
     requires { a.count ≤ limit }
     ensures { (s : Bytes) → Lies s a → Means s result (answer_name (some (row_at s a ++ (own_tuple author 32768 ∷ [])))) }
 {
@@ -169,7 +139,7 @@ fn right_after(a: Span, author: Author) -> Parts
 }
 
 // "2. Else if a is missing or a proper prefix of b, let y be b's first tuple after a."
-fn close_by(page: &[u8], a: Span, b: Span, author: Author) -> Parts
+fn close_by(page: &[u8], a: Span, b: Span, author: Author) -> Result<Parts, Refusal>
     requires { Lies page.now a × Lies page.now b }
     ensures { Means page.now result (answer_name (close_by author (row_at page.now a) (rest (row_at page.now a) (row_at page.now b)))) }
 {
@@ -184,7 +154,7 @@ fn close_by(page: &[u8], a: Span, b: Span, author: Author) -> Parts
 }
 
 // "1. If they differ by 2 or more: one tuple, position half their sum rounded down, author's node and sequence, offset 0."
-fn new_between(page: &[u8], a: Span, b: Span, author: Author) -> Parts
+fn new_between(page: &[u8], a: Span, b: Span, author: Author) -> Result<Parts, Refusal>
     requires { Lies page.now a × Lies page.now b }
     ensures { Means page.now result (answer_name (new_name author (row_at page.now a) (row_at page.now b))) }
 {
@@ -210,19 +180,15 @@ fn span_before(page: &[u8], gap: usize) -> Span
 }
 
 // 1, 2, 4, 16, 12, 6; else of what the new name for a gap is made.
-fn parts_for(page: &[u8], gap: usize, author: Author) -> Parts
+fn parts_for(page: &[u8], gap: usize, author: Author) -> Result<Parts, Refusal>
     ensures { Means page.now result (new_name_outcome page.now gap author) }
 {
-    match pages::look(page) {
-        Seen::Broken => return refused(Refusal::BadLayout),
-        Seen::NotRising => return refused(Refusal::NotRising),
-        Seen::Rising => {}
-    }
+    let n = pages::check_page(page)?;
     if author.node < 1 {
-        return refused(Refusal::NoAuthor);
+        return Err(Refusal::NoAuthor);
     }
-    if page.len() / SLOT < gap {
-        return refused(Refusal::NoGap);
+    if n < gap {
+        return Err(Refusal::NoGap);
     }
     let a = span_before(page, gap);
     let b = pages::span_of(page, gap);
@@ -248,22 +214,20 @@ fn made(page: &[u8], p: Parts) -> Name
     requires { Stands page.now p }
     ensures { result ≡ value_of (made_of page.now p) }
 {
-    let n = p.depth;
     let mut tuples = [name_values::low_marker(); LIMIT];
-    let mut k: usize = 0;
-    while k < n {
+    for k in 0..p.depth {
         tuples[k] = part_at(page, p, k);
-        k += 1;
     }
-    Name { depth: n, tuples }
+    Name {
+        depth: p.depth,
+        tuples,
+    }
 }
 
 // 1, 2, 4, 16, 12, 6; else a new name for the gap before slot `gap`, or after the last.
-pub fn new_name(page: &[u8], gap: usize, author: Author) -> NewName
+pub fn new_name(page: &[u8], gap: usize, author: Author) -> Result<Name, Refusal>
     ensures { Says result (new_name_outcome page.now gap author) }
 {
-    let parts = parts_for(page, gap, author);
-    let answer = parts.answer;
-    let name = made(page, parts);
-    NewName { answer, name }
+    let parts = parts_for(page, gap, author)?;
+    Ok(made(page, parts))
 }

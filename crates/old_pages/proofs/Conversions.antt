@@ -7,6 +7,7 @@ use mathlib.Core.Logic.{◌↔◌, inl, inr}
 use mathlib.Core.Bool.{Bool, true, false, ◌&&◌, and-false}
 use Prim.Native.Nat.{ℕ, ◌+◌, ◌-◌, ◌*◌, ◌/◌, ◌<◌, ◌≤◌, min}
 use native.Mathlib.Decide.{dec_lt}
+use native.Mathlib.Nat.{add-zero}
 use native.Mathlib.Omega.{arith}
 use borrow.Author.Tests.{lt-leb, leb-false, eqb-true}
 use lib.Dec.{leb}
@@ -35,7 +36,7 @@ use Rattle.answers.proofs.Outcomes.{write_accepted, write_refuses, writes}
 use Rattle.answers.proofs.Refusals.{passed, accepted_passes, refused_first}
 use Rattle.old_pages.specs.OldPages.{old_limit, old_size, keeps_old, old_rises, old_slots_of, old_pieces, fits_old, from_old_tests, to_old_tests, from_old_outcome, to_old_outcome}
 use Rattle.old_pages.specs.Laws.{Sizes, IsOldPage, SomeDeeper, Laws}
-use Rattle.old_pages.proofs.ConvertedSlots.{old_kept}
+use Rattle.old_pages.proofs.ConvertedSlots.{old_slot, old_part, old_kept}
 use Rattle.old_pages.proofs.Outcomes.{widened, narrowed, old_count, from_done, to_too_deep, to_done}
 
 abbrev answered : {x y : Outcome} → x ≡ y → x.answer ≡ y.answer
@@ -178,6 +179,10 @@ all_fit_lem page no_deeper = by (list_all fits_old (names_of page)) refl
 byte_in : (n p : ℕ) (s : Bytes) (i : ℕ) → i < n → get_or (take n (drop p s)) i 0 ≡ get_or s (p + i) 0
 byte_in n p s i h = get_or-take n (drop p s) i 0 h ∙ get_or-drop p s i 0
 
+-- the first byte of an old slot
+old_byte : (s : Bytes) → Octets s → keeps_old s ≡ true → (i : ℕ) → i < length s / old_size → get_or (old_slot s i) 0 0 ≡ get_or s (old_size * i) 0
+old_byte s k e i h = ap (λ (x : Bytes). get_or x 0 0) (old_part s k e i h) ∙ byte_in old_size (old_size * i) s 0 (omega arith) ∙ ap (λ (p : ℕ). get_or s p 0) (add-zero (old_size * i))
+
 -- The first byte is the depth of the first slot, of either kind, so at most eight; byte 104 is then in the filler of the first slot, and
 -- the depth of the second old one.
 module _ (s : Bytes) (k : Octets s) (e : keeps_old s ≡ true) (f : keeps_layout s ≡ true) (h : 0 < length s) where
@@ -197,7 +202,7 @@ module _ (s : Bytes) (k : Octets s) (e : keeps_old s ≡ true) (f : keeps_layout
   shallow =
       let old = (old_kept s k e 0 (omega (arith, two))).fit in
       let a = byte_in (slot_size * 0 + slot_size - slot_size * 0) (slot_size * 0) s 0 (omega arith) in
-      let b = byte_in (old_size * 0 + old_size - old_size * 0) (old_size * 0) s 0 (omega arith) in
+      let b = old_byte s k e 0 (omega (arith, two)) in
       omega arith
 
   filler : get_or s old_size 0 ≡ 0
@@ -213,7 +218,7 @@ module _ (s : Bytes) (k : Octets s) (e : keeps_old s ≡ true) (f : keeps_layout
   deep : 1 ≤ get_or s old_size 0
   deep =
       let second = (old_kept s k e 1 two).deep in
-      let c = byte_in (old_size * 1 + old_size - old_size * 1) (old_size * 1) s 0 (omega arith) in
+      let c = old_byte s k e 1 two in
       omega arith
 
 kinds_apart : (s : Bytes) → Octets s → keeps_old s ≡ true → keeps_layout s ≡ true → length s ≡ 0

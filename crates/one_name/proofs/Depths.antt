@@ -1,57 +1,63 @@
--- The most tuples of a name of the log (`deepest_of`) and the fewest (`shallowest_of`), name by name (`deepest_on`, `deepest_end`, `shallowest_all`, `shallowest_on`,
--- `shallowest_end`):
--- no name of it has more (`each_within`) or fewer (`each_over`). So a name that has room for as many and a marker beside its own tuples fits when it is taken
+-- The most tuples of a name of the log (`deepest_of`) and the fewest (`shallowest_of`), from the depths in its slots (`most`, `fewest`): at most `limit`
+-- (`most_within`, `fewest_within`), and no name of it has more (`each_within`) or fewer (`each_over`). So a name that has room for as many and a marker beside its own tuples fits when it is taken
 -- back (`back_fits_by`). Assumes nothing.
-use mathlib.Core.Path.{◌≡◌, ap}
+use mathlib.Core.Path.{◌≡◌, refl, ◌∙◌, sym, ap}
 use mathlib.Core.Bool.{true}
-use mathlib.Core.List.{List, [], ◌∷◌}
+use mathlib.Core.List.{List, [], ◌∷◌, map}
 use Prim.Native.Nat.{ℕ, zero, suc, ◌+◌, ◌<◌, ◌≤◌, max, min}
 use native.Mathlib.Omega.{arith}
-use native.Mathlib.Numerals.{add-one}
 use borrow.Author.Tests.{le-leb}
-use lib.ListN.{length, drop, get_or, drop_of_length-le}
-use lib.Seq.{drop-cons}
+use lib.ListN.{length, get_or}
+use Rattle.std.specs.List.{fold, reduce}
+use Rattle.std.specs.Option.{unwrap_or}
 use Rattle.names.specs.declared.Author.{Author}
 use Rattle.names.specs.Ordering.{Row}
 use Rattle.names.specs.Names.{limit, fits}
+use Rattle.numbers.specs.Bytes.{Bytes}
+use Rattle.slots.specs.Slots.{head_size, depth_of, slot_of, name_of}
+use Rattle.slots.proofs.TuplesInBytes.{length_tuples_at}
+use Rattle.slots.proofs.NameTests.{name_is}
+use Rattle.pages.specs.Pages.{name_in}
 use Rattle.name_renames.specs.Renaming.{take_back}
 use Rattle.name_renames.proofs.BackDepth.{back_depth}
 use Rattle.one_name.specs.Backs.{deepest_of, shallowest_of}
 
--- ── name by name ──
+-- ── slot by slot ──
 
--- name k, and the names after it
-deepest_at : (log : List Row) (k : ℕ) → k < length log → max (length (get_or log k [])) (deepest_of (drop (k + 1) log)) ≡ deepest_of (drop k log)
-deepest_at log k h = rw (add-one, drop-cons log k [] h)
+abbrev pub depth_in : Bytes → ℕ
+depth_in s = min (depth_of s) limit
 
--- the greater so far, with name k, and the names after it
-pub deepest_on : (log : List Row) (k most : ℕ) → k < length log → max (max most (length (get_or log k []))) (deepest_of (drop (k + 1) log)) ≡ max most (deepest_of (drop k log))
-deepest_on log k most h = omega (arith, deepest_at log k h)
+-- the name in a slot's bytes has so many tuples
+depth_is : (s : Bytes) → length (name_of s) ≡ depth_in s
+depth_is s = ap length (sym (name_is s (depth_in s) refl)) ∙ length_tuples_at s head_size (depth_in s)
 
--- after the last name
-pub deepest_end : (log : List Row) (k most : ℕ) → length log ≤ k → most ≡ max most (deepest_of (drop k log))
-deepest_end log k most h =
-    let none : deepest_of (drop k log) ≡ 0 = ap deepest_of (drop_of_length-le log h) in
-    omega arith
+-- the names in these slots
+abbrev named : List Bytes → List Row
+named l = map name_in (map slot_of l)
 
--- and of the lesser
-shallowest_at : (log : List Row) (k : ℕ) → k < length log → min (length (get_or log k [])) (shallowest_of (drop (k + 1) log)) ≡ shallowest_of (drop k log)
-shallowest_at log k h = rw (add-one, drop-cons log k [] h)
+most_on : (l : List Bytes) (a : ℕ) → fold max a (map depth_in l) ≡ max a (deepest_of (named l))
+most_on [] a = omega arith
+most_on (s ∷ l) a = most_on l (max a (depth_in s)) ∙ omega (arith, depth_is s)
 
-few : (log : List Row) → shallowest_of log ≤ limit
-few [] = omega arith
-few (r ∷ log) = let i = few log in omega arith
+pub most : (l : List Bytes) → unwrap_or (reduce max (map depth_in l)) 0 ≡ deepest_of (named l)
+most [] = refl
+most (s ∷ l) = most_on l (depth_in s) ∙ ap (λ (n : ℕ). max n (deepest_of (named l))) (sym (depth_is s))
 
-pub shallowest_all : (log : List Row) → min limit (shallowest_of log) ≡ shallowest_of log
-shallowest_all log = omega (arith, few log)
+pub most_within : (l : List Bytes) → deepest_of (named l) ≤ limit
+most_within [] = omega arith
+most_within (s ∷ l) = omega (arith, depth_is s, most_within l)
 
-pub shallowest_on : (log : List Row) (k fewest : ℕ) → k < length log → min (min fewest (length (get_or log k []))) (shallowest_of (drop (k + 1) log)) ≡ min fewest (shallowest_of (drop k log))
-shallowest_on log k fewest h = omega (arith, shallowest_at log k h)
+fewest_on : (l : List Bytes) (a : ℕ) → a ≤ limit → fold min a (map depth_in l) ≡ min a (shallowest_of (named l))
+fewest_on [] a h = omega (arith, h)
+fewest_on (s ∷ l) a h = fewest_on l (min a (depth_in s)) (omega arith) ∙ omega (arith, depth_is s)
 
-pub shallowest_end : (log : List Row) (k fewest : ℕ) → length log ≤ k → fewest ≤ limit → fewest ≡ min fewest (shallowest_of (drop k log))
-shallowest_end log k fewest h i =
-    let none : shallowest_of (drop k log) ≡ limit = ap shallowest_of (drop_of_length-le log h) in
-    omega arith
+pub fewest : (l : List Bytes) → unwrap_or (reduce min (map depth_in l)) limit ≡ shallowest_of (named l)
+fewest [] = refl
+fewest (s ∷ l) = fewest_on l (depth_in s) (omega arith) ∙ ap (λ (n : ℕ). min n (shallowest_of (named l))) (sym (depth_is s))
+
+pub fewest_within : (log : List Row) → shallowest_of log ≤ limit
+fewest_within [] = omega arith
+fewest_within (r ∷ log) = omega (arith, fewest_within log)
 
 -- ── what they bound ──
 

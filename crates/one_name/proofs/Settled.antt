@@ -1,8 +1,14 @@
 -- The promises settle their outcomes: any two outcomes that a contract allows are equal, of a name that is given whether it fits and its
 -- row. `Learnt` is what a caller learns from the contract, of any arguments a, result r and parameters at exit s. Assumes nothing.
-use mathlib.Core.Path.{◌≡◌}
-use Rattle.names.specs.declared.Joined.{Joined}
-use Rattle.names.specs.Names.{row_of}
+use mathlib.Core.Path.{◌≡◌, ◌∙◌, ap}
+use mathlib.Core.Bool.{Bool}
+use Rattle.std.specs.Prelude.{cond}
+use Rattle.std.specs.Option.{option_map}
+use Rattle.std.specs.declared.option.Option.{Option}
+use Rattle.std.specs.declared.option.Option.TheVariants.{Some, None}
+use Rattle.names.specs.declared.Name.{Name}
+use Rattle.names.specs.Ordering.{Row}
+use Rattle.names.specs.Names.{row_of, fits, Gives}
 use Rattle.numbers.proofs.Settled.{one}
 use Rattle.slots.specs.Tuples.{row_at}
 use Rattle.pages.specs.Pages.{names_of}
@@ -25,8 +31,10 @@ use Rattle.one_name.proofs.alone_of.Reads as Alone-of
 use Rattle.one_name.proofs.rename_name.Reads as rename-name
 use Rattle.one_name.proofs.take_back_name.Reads as take-back-name
 
-abbrev SameGiven : Joined → Joined → Type 0
-SameGiven r r' = (r.fits ≡ r'.fits) × (row_of r.name ≡ row_of r'.name)
+-- what is given of a row a: whether there is a name, and its row
+given : (r : Option Name) (a : Row) → Gives r a → option_map row_of r ≡ cond (fits a) (Some a) None
+given (Some x) a p = ap Some p.1 ∙ ap (λ (b : Bool). cond b (Some a) None) p.0
+given None a p = ap (λ (b : Bool). cond b (Some a) None) p.0
 
 pub all_unmarked_settled : (κs : _) (a : _) (r : _) (s : _) (r' : _) (s' : _) → all-unmarked.Learnt κs a r s → all-unmarked.Learnt κs a r' s' → r ≡ r'
 all_unmarked_settled κs a r s r' s' p q = one p q
@@ -74,8 +82,8 @@ pub alone_of_settled : (κs : _) (a : _) (r : _) (s : _) (r' : _) (s' : _) → A
     shaped (row_at a.1.1.0.now a.1.1.1.0) (names_of a.0.now) (single r) ≡ shaped (row_at a.1.1.0.now a.1.1.1.0) (names_of a.0.now) (single r')
 alone_of_settled κs a r s r' s' p q = one p.1 q.1
 
-pub rename_name_settled : (κs : _) (a : _) (r : _) (s : _) (r' : _) (s' : _) → rename-name.Learnt κs a r s → rename-name.Learnt κs a r' s' → SameGiven r r'
-rename_name_settled κs a r s r' s' p q = (one p.0 q.0, one p.1 q.1)
+pub rename_name_settled : (κs : _) (a : _) (r : _) (s : _) (r' : _) (s' : _) → rename-name.Learnt κs a r s → rename-name.Learnt κs a r' s' → option_map row_of r ≡ option_map row_of r'
+rename_name_settled κs a r s r' s' p q = one (given r _ p) (given r' _ q)
 
-pub take_back_name_settled : (κs : _) (a : _) (r : _) (s : _) (r' : _) (s' : _) → take-back-name.Learnt κs a r s → take-back-name.Learnt κs a r' s' → SameGiven r r'
-take_back_name_settled κs a r s r' s' p q = (one p.0 q.0, one p.1 q.1)
+pub take_back_name_settled : (κs : _) (a : _) (r : _) (s : _) (r' : _) (s' : _) → take-back-name.Learnt κs a r s → take-back-name.Learnt κs a r' s' → option_map row_of r ≡ option_map row_of r'
+take_back_name_settled κs a r s r' s' p q = one (given r _ p) (given r' _ q)

@@ -1,8 +1,6 @@
--- A stem that was found in bytes: what it tells of the shape (`Tells`), where it stands in the log (`in_log`), and how many tuples a joined name
--- has (`behind_depth`, `ahead_depth`). Assumes nothing.
-use mathlib.Core.Path.{◌≡◌, sym, subst}
+-- A stem that was found in bytes: what it tells of the shape (`Tells`), and how many tuples a joined name has (`behind_depth`, `ahead_depth`). Assumes nothing.
+use mathlib.Core.Path.{◌≡◌}
 use mathlib.Core.List.{◌∷◌, ◌++◌}
-use mathlib.Core.Bool.{Bool, true, cond}
 use Prim.Native.Nat.{ℕ, ◌+◌, ◌-◌, ◌≤◌}
 use native.Mathlib.Omega.{arith}
 use lib.ListN.{length, drop, length-append, length-drop}
@@ -10,7 +8,6 @@ use Rattle.names.specs.Ordering.{Row}
 use Rattle.names.specs.Names.{m, M, one_below}
 use Rattle.names.proofs.Laws.{below_length}
 use Rattle.numbers.specs.Bytes.{Bytes}
-use Rattle.slots.specs.Tuples.{row_at, Lies}
 use Rattle.pages.specs.Pages.{names_of}
 use Rattle.one_name.specs.declared.Back.{Back}
 use Rattle.one_name.specs.declared.Stem.{Stem}
@@ -22,9 +19,6 @@ module _ (s log : Bytes) where
   Tells c x b =
       ((x.behind ≡ is_behind b) × (x.ahead ≡ is_ahead b) × (x.depth ≡ length (shaped c (names_of log) b)))
       × (StemLies s log x × (row_of_stem s log x ≡ stem c (names_of log) b))
-
-  pub in_log : (x : Stem) {r : Row} → x.logged ≡ true → Lies log x.row → row_at log x.row ≡ r → StemLies s log x × (row_of_stem s log x ≡ r)
-  in_log x {r} l h e = subst (λ (b : Bool). Lies (cond b log s) x.row × (row_at (cond b log s) x.row ≡ r)) (sym l) (h, e)
 
 module _ (r c : Row) (count cut : ℕ) (e : length c ≡ count) (h : cut ≤ length c) where
   pub behind_depth : length r + (count - cut + 1) ≡ length (r ++ (m ∷ drop cut c))

@@ -1,28 +1,38 @@
--- On which side of N(0) and of N(n−1) a name x is, by the tests of `back_of`, `is_alone` and `alone_of` (`under_first`, `from_first`, `over_last`,
--- `to_last`), with what is stripped of it there (`low_is`, `high_is`); and of an x between the two, which is N(k)·t, what its k is good for (`index_read`,
--- `restored`, `next_logged`, `in_gap_lem`). Assumes nothing.
+-- What "above" tests is "below" the other way round (`turned`). On which side of N(0) and of N(n−1) a name x is, by the tests of `back_of`, `is_alone` and
+-- `alone_of` (`under_first`, `from_first`, `over_last`, `to_last`), with what is stripped of it there (`low_is`, `high_is`); and of an x between the two, which
+-- is N(k)·t, what its k is good for (`index_read`, `restored`, `next_logged`). Assumes nothing.
 use mathlib.Core.Path.{◌≡◌, refl, ◌∙◌, sym, ap}
 use mathlib.Core.List.{[], ◌∷◌}
 use mathlib.Core.Bool.{Bool, true, false}
-use Prim.Native.Nat.{ℕ, suc, ◌+◌, ◌-◌, ◌/◌, ◌<◌, ◌≤◌}
-use native.Mathlib.Numerals.{add-one}
+use Prim.Native.Nat.{ℕ, ◌+◌, ◌-◌, ◌/◌, ◌<◌, ◌≤◌}
 use native.Mathlib.Omega.{arith}
 use lib.IntN.{pos}
-use lib.ListN.{length, get_or, drop}
+use lib.ListN.{length, get_or}
 use lib.Signed.{non_neg}
 use Rattle.names.specs.declared.Author.{Author}
 use Rattle.names.specs.declared.Tuple.{Tuple}
 use Rattle.names.specs.Ordering.{Row, compare_rows, ◌<ⁿ◌, ◌≤ⁿ◌}
-use Rattle.std.specs.Ordering.{is_lt}
+use Rattle.std.specs.Ordering.{is_lt, is_gt}
+use Rattle.std.specs.declared.cmp.Ordering.{Ordering}
+use Rattle.std.specs.declared.cmp.Ordering.TheVariants.{Less, Equal, Greater}
 use Rattle.names.specs.Names.{m}
-use Rattle.names.proofs.TestedOrder.{is_under_lem, not_under}
+use Rattle.names.proofs.TestedOrder.{is_under_lem, not_under, turned_less, turned_same, turned_more}
 use Rattle.numbers.specs.Bytes.{Bytes}
 use Rattle.slots.specs.Slots.{slot_size}
 use Rattle.pages.specs.Pages.{names_of, is_log}
-use Rattle.name_renames.specs.Renaming.{first_position, lead, N, strip_below, strip_above, back_between, take_back}
+use Rattle.name_renames.specs.Renaming.{first_position, lead, N, strip_below, strip_above, take_back}
 use Rattle.name_renames.proofs.ByTest.{low_as}
-use Rattle.name_renames.proofs.BackByIndex.{Within, lies_within, within_long, within_natural, within_at, back_logged, back_in_gap}
+use Rattle.name_renames.proofs.BackByIndex.{Within, lies_within, within_long, within_natural, within_at, back_logged}
 use Rattle.one_name.proofs.CheckedLog.{logged}
+
+-- compared the other way round
+pub turned : (x y : Row) → is_gt (compare_rows x y) ≡ is_lt (compare_rows y x)
+turned x y = go (compare_rows x y) refl
+  where
+    go : (o : Ordering) → compare_rows x y ≡ o → is_gt o ≡ is_lt (compare_rows y x)
+    go Less e = ap is_lt (turned_less x y e)
+    go Equal e = ap is_lt (turned_same x y e)
+    go Greater e = ap is_lt (turned_more x y e)
 
 above_as : (x : Row) {u v : Tuple} {b r : Bool} → u ≡ v → r ≡ is_lt (compare_rows (u ∷ []) x) → r ≡ b → is_lt (compare_rows (v ∷ []) x) ≡ b
 above_as x d f g = sym (ap (λ (t : Tuple). is_lt (compare_rows (t ∷ []) x)) d) ∙ sym f ∙ g
@@ -90,10 +100,3 @@ module _ (log : Bytes) (author : Author) (x : Row) (e : is_log log ≡ true) whe
 
       pub next_logged : 2 ≤ length x → k + 1 < length (names_of log)
       next_logged h = omega (arith, (within_at first author within k o).2 h)
-
-      -- "c between N(k) and N(k+1), so c = N(k)·t"
-      pub in_gap_lem : 2 ≤ length x → back_between (get_or (names_of log) k []) (get_or (names_of log) (k + 1) []) (drop 1 x) ≡ take_back author (names_of log) x
-      in_gap_lem h =
-          let q = ap (λ (j : ℕ). get_or (names_of log) j []) (add-one k) in
-          let i : suc k < length (names_of log) = omega (arith, next_logged h) in
-          (λ j. back_between (get_or (names_of log) k []) (q j) (drop 1 x)) ∙ back_in_gap author x (names_of log) k i (within_at first author within k o).0 h

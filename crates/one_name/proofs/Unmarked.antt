@@ -1,4 +1,4 @@
--- End markers in a name: its last tuple is none (`last_free`), a tuple that is none is ordinary (`no_marker`), what the code's look for them from some
+-- End markers in a name: it has a tuple (`name_some`), its last is none (`last_free`), a tuple that is none is ordinary (`no_marker`), what the code's look for them from some
 -- tuple on says of each (`none_from`), and a name with none is `MarkerFree` (`unmarked_free`). Assumes nothing.
 use mathlib.Core.Path.{◌≡◌, refl, ◌∙◌, sym, ap}
 use mathlib.Core.Bool.{Bool, true, false, not, ◌&&◌}
@@ -40,6 +40,9 @@ ends_last zero (final {t} o h) n = ap (λ (b : Bool). b && true) (ordinary_free 
 ends_last (suc i) (final o h) n = ap unmarked (sym (drop-nil i))
 ends_last zero (onward b k) n = absurd (omega (arith, ends_some k))
 ends_last (suc i) (onward b k) n = ends_last i k (omega arith)
+
+pub name_some : {a : Row} → Valid a → 1 ≤ length a
+name_some v = ends_some (valid_ends v)
 
 -- from a name's last tuple on there is no marker
 pub last_free : {a : Row} (i : ℕ) → Valid a → length a ≤ i + 1 → true ≡ unmarked (drop i a)

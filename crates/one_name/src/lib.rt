@@ -3,7 +3,7 @@
 
 #![tactic(auto)]
 
-ghost use Rattle.std.specs.Prelude.{◌≡◌, [], ◌∷◌, ◌++◌, true, ◌&&◌, ◌+◌, ◌-◌, ◌*◌, ◌≤◌, ◌<◌, max, min, pos, length, take, drop, get_or};
+ghost use Rattle.std.specs.Prelude.{◌≡◌, [], ◌∷◌, ◌++◌, true, false, ◌&&◌, ◌+◌, ◌-◌, ◌*◌, ◌≤◌, ◌<◌, max, min, pos, length, take, drop, get_or};
 ghost use Rattle.std.specs.Int.Signed.{non_neg};
 ghost use Rattle.names.specs.Ordering.{compare_rows, ◌≤ⁿ◌};
 ghost use Rattle.std.specs.Ordering.{is_lt, is_eq};
@@ -20,7 +20,7 @@ ghost use Rattle.one_name.specs.Backs.{shaped, Stands, Means, single, deepest_of
 ghost use Rattle.one_name.specs.Stems.{stem, is_behind, is_ahead, is_own, clear_from, marked_at, may_meet, row_of_stem, StemLies};
 
 use name_renames::Case;
-use names::{Author, Joined, LIMIT, Name, Tuple};
+use names::{Author, LIMIT, Name, Tuple};
 use pages::Place;
 use slots::{HEAD, SLOT, Span, TUPLE};
 use std::cmp::Ordering;
@@ -39,14 +39,14 @@ fn first_position(log: &[u8]) -> u16
 }
 
 // (p, A, s, z)
-fn lead(p: u16, author: Author, z: i32) -> Tuple
-    ensures { result ≡ lead_tuple p author z }
+fn lead(position: u16, author: Author, offset: i32) -> Tuple
+    ensures { result ≡ lead_tuple position author offset }
 {
     Tuple {
-        position: p,
+        position,
         node: author.node,
         sequence: author.sequence,
-        offset: z,
+        offset,
     }
 }
 
@@ -64,17 +64,9 @@ fn stand(x: Name, bytes: &mut [u8]) -> Span
     ensures { Lies bytes.new result × (row_at bytes.new result ≡ row_of x) }
 {
     slots::write_row(bytes, 0, x);
-    let count = names::tuples_in(x);
-    Span { at: 0, count }
-}
-
-// A name by value, as it is.
-fn whole(x: Name) -> Joined
-    ensures { Gives result (row_of x) }
-{
-    Joined {
-        fits: true,
-        name: x,
+    Span {
+        at: 0,
+        count: names::tuples_in(x),
     }
 }
 
@@ -86,18 +78,12 @@ fn is_unmarked(s: &[u8], x: Span, from: usize) -> bool
     requires { Lies s.now x × (is_name (row_at s.now x) ≡ true) × (from ≤ limit) }
     ensures { result ≡ unmarked_from from (row_at s.now x) }
 {
-    let n = x.count;
-    let p = x.at;
-    let mut i = from;
-    loop {
-        if n <= i + 1 {
-            break true;
+    for i in from..x.count - 1 {
+        if slots::marker_at(s, x.at + TUPLE * i) {
+            return false;
         }
-        if slots::marker_at(s, p + TUPLE * i) {
-            break false;
-        }
-        i += 1;
     }
+    true
 }
 
 // No end marker is in a name of the log from its tuple `from` on.
@@ -105,67 +91,38 @@ pub fn all_unmarked(log: &[u8], from: usize) -> bool
     requires { (keeps_layout log.now ≡ true) × (from ≤ limit) }
     ensures { result ≡ list_all (unmarked_from from) (names_of log.now) }
 {
-    let n = log.len() / SLOT;
-    let mut k: usize = 0;
-    loop {
-        if n <= k {
-            break true;
-        }
+    for k in 0..log.len() / SLOT {
         if !is_unmarked(log, pages::span_of(log, k), from) {
-            break false;
+            return false;
         }
-        k += 1;
     }
+    true
 }
 
 // ── depth ──
-
-// The greater of two numbers.
-fn greater(a: usize, b: usize) -> usize
-    ensures { result ≡ max a b }
-{
-    if a < b { b } else { a }
-}
-
-// The lesser of two numbers.
-fn lesser(a: usize, b: usize) -> usize
-    ensures { result ≡ min a b }
-{
-    if a < b { a } else { b }
-}
 
 // The most tuples of a name of the page, or of the log.
 pub fn deepest(page: &[u8]) -> usize
     ensures { (result ≡ deepest_of (names_of page.now)) × (result ≤ limit) }
 {
-    let n = page.len() / SLOT;
-    let mut most: usize = 0;
-    let mut k: usize = 0;
-    loop {
-        if n <= k {
-            break most;
-        }
-        let x = pages::span_of(page, k);
-        most = greater(most, x.count);
-        k += 1;
-    }
+    let (slots, _) = page.as_chunks::<SLOT>();
+    slots
+        .iter()
+        .map(|slot| slots::depth(slot))
+        .max()
+        .unwrap_or(0)
 }
 
 // The fewest tuples of a name of the page, or of the log; LIMIT where there is none.
 pub fn shallowest(page: &[u8]) -> usize
     ensures { (result ≡ shallowest_of (names_of page.now)) × (result ≤ limit) }
 {
-    let n = page.len() / SLOT;
-    let mut fewest = LIMIT;
-    let mut k: usize = 0;
-    loop {
-        if n <= k {
-            break fewest;
-        }
-        let x = pages::span_of(page, k);
-        fewest = lesser(fewest, x.count);
-        k += 1;
-    }
+    let (slots, _) = page.as_chunks::<SLOT>();
+    slots
+        .iter()
+        .map(|slot| slots::depth(slot))
+        .min()
+        .unwrap_or(LIMIT)
 }
 
 // ── renaming one name: the case ──
@@ -175,10 +132,10 @@ fn case_below(p: u16, author: Author, s: &[u8], x: Span) -> Case
     requires { Lies s.now x }
     ensures { result ≡ if_below (row_at s.now x) (N p author 0) Case.KeepBelow Case.PutBelow }
 {
-    match slots::compare_to_one(s, x.at, x.count, lead(p, author, 0)) {
-        Ordering::Less => Case::KeepBelow,
-        Ordering::Equal => Case::PutBelow,
-        Ordering::Greater => Case::PutBelow,
+    if is_below(s, x, lead(p, author, 0)) {
+        Case::KeepBelow
+    } else {
+        Case::PutBelow
     }
 }
 
@@ -187,10 +144,10 @@ fn case_above(p: u16, author: Author, k: usize, s: &[u8], x: Span) -> Case
     requires { (k < max_slots) × Lies s.now x }
     ensures { result ≡ if_below (row_at s.now x) (N p author k) (Case.PutAbove k) Case.KeepAbove }
 {
-    match slots::compare_to_one(s, x.at, x.count, numbered(p, author, k)) {
-        Ordering::Less => Case::PutAbove(k),
-        Ordering::Equal => Case::KeepAbove,
-        Ordering::Greater => Case::KeepAbove,
+    if is_below(s, x, numbered(p, author, k)) {
+        Case::PutAbove(k)
+    } else {
+        Case::KeepAbove
     }
 }
 
@@ -203,13 +160,13 @@ pub fn case_at(log: &[u8], author: Author, place: Place, s: &[u8], x: Span) -> C
     match place {
         Place::Here(k) => Case::Logged(k),
         Place::Gap(k) => {
-            if k < 1 {
-                return case_below(p, author, s, x);
+            if k == 0 {
+                case_below(p, author, s, x)
+            } else if k < log.len() / SLOT {
+                Case::Between(k - 1)
+            } else {
+                case_above(p, author, k - 1, s, x)
             }
-            if k < log.len() / SLOT {
-                return Case::Between(k - 1);
-            }
-            case_above(p, author, k - 1, s, x)
         }
     }
 }
@@ -220,19 +177,15 @@ fn place_from(log: &[u8], s: &[u8], x: Span, j: usize) -> Place
     ensures { result ≡ place_of (row_at s.now x) (names_of log.now) }
 {
     let n = log.len() / SLOT;
-    let mut k = j;
-    loop {
-        if n <= k {
-            break Place::Gap(k);
-        }
+    for k in j..n {
         let r = pages::span_of(log, k);
         match slots::compare_rows(log, r.at, r.count, s, x.at, x.count) {
             Ordering::Less => {}
-            Ordering::Equal => break Place::Here(k),
-            Ordering::Greater => break Place::Gap(k),
+            Ordering::Equal => return Place::Here(k),
+            Ordering::Greater => return Place::Gap(k),
         }
-        k += 1;
     }
+    Place::Gap(n)
 }
 
 // The case of 01's table for a name, and how many names of the log are below it.
@@ -249,14 +202,12 @@ pub fn walk(log: &[u8], author: Author, s: &[u8], x: Span, j: usize) -> Walked
 {
     let place = place_from(log, s, x, j);
     let case = case_at(log, author, place, s, x);
-    match place {
-        Place::Here(k) => Walked { below: k, case },
-        Place::Gap(k) => Walked { below: k, case },
-    }
+    let (Place::Here(below) | Place::Gap(below)) = place;
+    Walked { below, case }
 }
 
 // What a case of 01's table does to a name x.
-#[derive(Clone, Copy)]
+#[derive(Clone, Copy, Debug, PartialEq, Eq)]
 pub enum Change {
     // x stays.
     Kept,
@@ -273,12 +224,10 @@ pub fn change_of(log: &[u8], author: Author, case: Case) -> Change
 {
     let p = first_position(log);
     match case {
-        Case::KeepBelow => Change::Kept,
+        Case::KeepBelow | Case::KeepAbove => Change::Kept,
         Case::PutBelow => Change::Led(lead(p, author, -1)),
         Case::Logged(k) => Change::Alone(numbered(p, author, k)),
-        Case::Between(k) => Change::Led(numbered(p, author, k)),
-        Case::PutAbove(k) => Change::Led(numbered(p, author, k)),
-        Case::KeepAbove => Change::Kept,
+        Case::Between(k) | Case::PutAbove(k) => Change::Led(numbered(p, author, k)),
     }
 }
 
@@ -286,42 +235,37 @@ pub fn change_of(log: &[u8], author: Author, case: Case) -> Change
 pub fn gains(change: Change) -> bool
     ensures { result ≡ gains_one change }
 {
-    match change {
-        Change::Kept => false,
-        Change::Alone(_) => false,
-        Change::Led(_) => true,
-    }
+    matches!(change, Change::Led(_))
 }
 
 // ── renaming one name ──
 
 // x changed.
-fn changed(change: Change, x: Name) -> Joined
+fn changed(change: Change, x: Name) -> Option<Name>
     ensures { Gives result (changed_by change (row_of x)) }
 {
     match change {
-        Change::Kept => whole(x),
-        Change::Alone(t) => whole(name_values::one(t)),
+        Change::Kept => Some(x),
+        Change::Alone(t) => Some(name_values::one(t)),
         Change::Led(t) => name_values::join_by(name_values::empty(), t, x),
     }
 }
 
-// One name, renamed; it has more than LIMIT tuples where it does not fit.
-pub fn rename_name(log: &[u8], author: Author, x: Name) -> Joined
+// One name, renamed; none where it has more than LIMIT tuples.
+pub fn rename_name(log: &[u8], author: Author, x: Name) -> Option<Name>
     requires { is_log log.now ≡ true }
     ensures { Gives result (rename_row author (names_of log.now) (row_of x)) }
 {
     let mut bytes = [0; ROW];
     let at = stand(x, &mut bytes);
-    let w = walk(log, author, &bytes, at, 0);
-    let case = w.case;
-    changed(change_of(log, author, case), x)
+    let walked = walk(log, author, &bytes, at, 0);
+    changed(change_of(log, author, walked.case), x)
 }
 
 // ── taking one name back: the shape ──
 
 // What 01's bullets come to. v is c without its first tuples, so many: c itself, or what follows its first tuple.
-#[derive(Clone, Copy)]
+#[derive(Clone, Copy, Debug, PartialEq, Eq)]
 pub enum Back {
     // r(k)
     Restored(usize),
@@ -346,11 +290,7 @@ fn is_above(s: &[u8], x: Span, t: Tuple) -> bool
     requires { Lies s.now x }
     ensures { result ≡ is_lt (compare_rows (t ∷ []) (row_at s.now x)) }
 {
-    match slots::compare_to_one(s, x.at, x.count, t) {
-        Ordering::Less => false,
-        Ordering::Equal => false,
-        Ordering::Greater => true,
-    }
+    slots::compare_to_one(s, x.at, x.count, t).is_gt()
 }
 
 // A name that stands in s begins with the tuple t.
@@ -358,10 +298,7 @@ fn begins(s: &[u8], x: Span, t: Tuple) -> bool
     requires { Lies s.now x }
     ensures { result ≡ is_eq (compare_rows (take 1 (row_at s.now x)) (t ∷ [])) }
 {
-    if x.count < 1 {
-        return false;
-    }
-    slots::compare_to_one(s, x.at, 1, t).is_eq()
+    0 < x.count && slots::compare_to_one(s, x.at, 1, t).is_eq()
 }
 
 // The tuples of c after the first `cut`.
@@ -369,9 +306,10 @@ pub fn without(s: &[u8], c: Span, cut: usize) -> Span
     requires { Lies s.now c × (cut ≤ c.count) }
     ensures { Lies s.now result × (row_at s.now result ≡ drop cut (row_at s.now c)) × (result.count ≡ c.count - cut) }
 {
-    let at = c.at + TUPLE * cut;
-    let count = c.count - cut;
-    Span { at, count }
+    Span {
+        at: c.at + TUPLE * cut,
+        count: c.count - cut,
+    }
 }
 
 // A name that stands in s against r(k).
@@ -388,10 +326,10 @@ fn under(log: &[u8], k: usize, s: &[u8], c: Span, cut: usize) -> Back
     requires { Lies s.now c × (cut ≤ c.count) }
     ensures { result ≡ under_shape (row_at s.now c) (names_of log.now) k cut }
 {
-    match against(log, k, s, without(s, c, cut)) {
-        Ordering::Less => Back::Own(cut),
-        Ordering::Equal => Back::Ahead(k, cut),
-        Ordering::Greater => Back::Ahead(k, cut),
+    if against(log, k, s, without(s, c, cut)).is_lt() {
+        Back::Own(cut)
+    } else {
+        Back::Ahead(k, cut)
     }
 }
 
@@ -400,10 +338,10 @@ fn over(log: &[u8], k: usize, s: &[u8], c: Span, cut: usize) -> Back
     requires { Lies s.now c × (cut ≤ c.count) }
     ensures { result ≡ over_shape (row_at s.now c) (names_of log.now) k cut }
 {
-    match against(log, k, s, without(s, c, cut)) {
-        Ordering::Less => Back::Behind(k, cut),
-        Ordering::Equal => Back::Behind(k, cut),
-        Ordering::Greater => Back::Own(cut),
+    if against(log, k, s, without(s, c, cut)).is_gt() {
+        Back::Own(cut)
+    } else {
+        Back::Behind(k, cut)
     }
 }
 
@@ -413,10 +351,10 @@ fn between(log: &[u8], k: usize, s: &[u8], c: Span) -> Back
     requires { (k + 1 < length (names_of log.now)) × Lies s.now c × (1 ≤ c.count) }
     ensures { result ≡ between_shape (row_at s.now c) (names_of log.now) k }
 {
-    match against(log, k, s, without(s, c, 1)) {
-        Ordering::Less => Back::Behind(k, 1),
-        Ordering::Equal => Back::Behind(k, 1),
-        Ordering::Greater => under(log, k + 1, s, c, 1),
+    if against(log, k, s, without(s, c, 1)).is_gt() {
+        under(log, k + 1, s, c, 1)
+    } else {
+        Back::Behind(k, 1)
     }
 }
 
@@ -426,13 +364,11 @@ fn strip_below(p: u16, author: Author, s: &[u8], c: Span) -> usize
     requires { Lies s.now c }
     ensures { (result ≤ c.count) × (result ≤ 1) × (drop result (row_at s.now c) ≡ strip_below p author (row_at s.now c)) }
 {
-    if !begins(s, c, lead(p, author, -1)) {
-        return 0;
+    if begins(s, c, lead(p, author, -1)) && !is_below(s, without(s, c, 1), lead(p, author, 0)) {
+        1
+    } else {
+        0
     }
-    if is_below(s, without(s, c, 1), lead(p, author, 0)) {
-        return 0;
-    }
-    1
 }
 
 // "v is t where c = N(n−1)·t and t is below N(n−1); otherwise v is c"; k is n − 1.
@@ -440,20 +376,12 @@ fn strip_above(p: u16, author: Author, k: usize, s: &[u8], c: Span) -> usize
     requires { (k < max_slots) × Lies s.now c }
     ensures { (result ≤ c.count) × (result ≤ 1) × (drop result (row_at s.now c) ≡ strip_above p author k (row_at s.now c)) }
 {
-    if !begins(s, c, numbered(p, author, k)) {
-        return 0;
+    let n = numbered(p, author, k);
+    if begins(s, c, n) && is_below(s, without(s, c, 1), n) {
+        1
+    } else {
+        0
     }
-    if is_below(s, without(s, c, 1), numbered(p, author, k)) {
-        return 1;
-    }
-    0
-}
-
-fn natural(z: i32) -> usize
-    requires { non_neg z ≡ true }
-    ensures { pos result ≡ z }
-{
-    z as usize
 }
 
 // The k of N(k)·t: the first tuple's offset.
@@ -461,8 +389,7 @@ fn index_of(s: &[u8], c: Span) -> usize
     requires { Lies s.now c × (1 ≤ c.count) × (non_neg (get_or (row_at s.now c) 0 m).offset ≡ true) }
     ensures { pos result ≡ (get_or (row_at s.now c) 0 m).offset }
 {
-    let t = slots::read_tuple(s, c.at);
-    natural(t.offset)
+    slots::read_tuple(s, c.at).offset as usize
 }
 
 // "c = N(k), 0 ≤ k < n: r(k)", and c between N(k) and N(k+1). k is read off the first tuple.
@@ -473,9 +400,10 @@ fn back_within(log: &[u8], author: Author, s: &[u8], c: Span) -> Back
 {
     let k = index_of(s, c);
     if c.count < 2 {
-        return Back::Restored(k);
+        Back::Restored(k)
+    } else {
+        between(log, k, s, c)
     }
-    between(log, k, s, c)
 }
 
 // What becomes of c, a name that stands in s.
@@ -497,7 +425,7 @@ pub fn back_of(log: &[u8], author: Author, s: &[u8], c: Span) -> Back
 // ── taking one name back: beside its neighbour ──
 
 // What a name that is taken back is made at: r(k), where it is r(k) itself or is put behind it or ahead of it; else its own tuples. And how many tuples
-// it then has.
+// it then has. Bools, since an enum in their place is copied byte by byte from turn to turn, and was measured to be slower.
 #[derive(Clone, Copy)]
 pub struct Stem {
     pub behind: bool,
@@ -509,18 +437,17 @@ pub struct Stem {
 }
 
 // r(k), and so many tuples more.
-fn logged_stem(log: &[u8], k: usize, behind: bool, ahead: bool, more: usize) -> Stem
+fn logged_stem(log: &[u8], k: usize, more: usize) -> Stem
     requires { more ≤ limit + 1 }
-    ensures { (result.behind ≡ behind) × (result.ahead ≡ ahead) × (result.logged ≡ true) × Lies log.now result.row × (row_at log.now result.row ≡ get_or (names_of log.now) k []) × (result.depth ≡ length (get_or (names_of log.now) k []) + more) }
+    ensures { (result.behind ≡ false) × (result.ahead ≡ false) × (result.logged ≡ true) × Lies log.now result.row × (row_at log.now result.row ≡ get_or (names_of log.now) k []) × (result.depth ≡ length (get_or (names_of log.now) k []) + more) }
 {
     let row = pages::span_of(log, k);
-    let depth = row.count + more;
     Stem {
-        behind,
-        ahead,
+        behind: false,
+        ahead: false,
         logged: true,
         row,
-        depth,
+        depth: row.count + more,
     }
 }
 
@@ -531,7 +458,7 @@ pub fn stem_of(log: &[u8], s: &[u8], c: Span, back: Back) -> Stem
     ensures stem_lies { StemLies s.now log.now result × (row_of_stem s.now log.now result ≡ stem (row_at s.now c) (names_of log.now) back) }
 {
     match back {
-        Back::Restored(k) => logged_stem(log, k, false, false, 0),
+        Back::Restored(k) => logged_stem(log, k, 0),
         Back::Own(cut) => {
             let row = without(s, c, cut);
             Stem {
@@ -542,8 +469,14 @@ pub fn stem_of(log: &[u8], s: &[u8], c: Span, back: Back) -> Stem
                 depth: row.count,
             }
         }
-        Back::Behind(k, cut) => logged_stem(log, k, true, false, c.count - cut + 1),
-        Back::Ahead(k, cut) => logged_stem(log, k, false, true, c.count - cut + 1),
+        Back::Behind(k, cut) => Stem {
+            behind: true,
+            ..logged_stem(log, k, c.count - cut + 1)
+        },
+        Back::Ahead(k, cut) => Stem {
+            ahead: true,
+            ..logged_stem(log, k, c.count - cut + 1)
+        },
     }
 }
 
@@ -552,10 +485,7 @@ fn marked_after(s: &[u8], x: Span, n: usize) -> bool
     requires { Lies s.now x }
     ensures { result ≡ marked_at (row_at s.now x) n }
 {
-    if x.count <= n {
-        return false;
-    }
-    slots::marker_at(s, x.at + TUPLE * n)
+    n < x.count && slots::marker_at(s, x.at + TUPLE * n)
 }
 
 // The stem x has one there.
@@ -563,10 +493,7 @@ fn marked_at(log: &[u8], s: &[u8], x: Stem, n: usize) -> bool
     requires { StemLies s.now log.now x }
     ensures { result ≡ marked_at (row_of_stem s.now log.now x) n }
 {
-    if x.logged {
-        return marked_after(log, x.row, n);
-    }
-    marked_after(s, x.row, n)
+    marked_after(if x.logged { log } else { s }, x.row, n)
 }
 
 // What is put behind x could pass y.
@@ -574,11 +501,7 @@ fn reaches_up(log: &[u8], s: &[u8], x: Stem, y: Stem) -> bool
     requires { StemLies s.now log.now x × StemLies s.now log.now y }
     ensures { result ≡ (x.behind && marked_at (row_of_stem s.now log.now y) (length (row_of_stem s.now log.now x))) }
 {
-    if !x.behind {
-        return false;
-    }
-    let row = x.row;
-    marked_at(log, s, y, row.count)
+    x.behind && marked_at(log, s, y, x.row.count)
 }
 
 // What is put ahead of y could pass x.
@@ -586,11 +509,7 @@ fn reaches_down(log: &[u8], s: &[u8], x: Stem, y: Stem) -> bool
     requires { StemLies s.now log.now x × StemLies s.now log.now y }
     ensures { result ≡ (y.ahead && marked_at (row_of_stem s.now log.now x) (length (row_of_stem s.now log.now y))) }
 {
-    if !y.ahead {
-        return false;
-    }
-    let row = y.row;
-    marked_at(log, s, x, row.count)
+    y.ahead && marked_at(log, s, x, y.row.count)
 }
 
 // Two neighbours, with stems x and y, could change places when they are taken back. Where they could not, they keep their order: that is a theorem,
@@ -599,22 +518,7 @@ pub fn may_meet(log: &[u8], s: &[u8], x: Stem, y: Stem) -> bool
     requires { StemLies s.now log.now x × StemLies s.now log.now y }
     ensures { result ≡ may_meet x.behind y.ahead (row_of_stem s.now log.now x) (row_of_stem s.now log.now y) }
 {
-    if reaches_up(log, s, x, y) {
-        return true;
-    }
-    reaches_down(log, s, x, y)
-}
-
-// What becomes of a name is tuples of its own.
-fn is_own(back: Back) -> bool
-    ensures { result ≡ is_own back }
-{
-    match back {
-        Back::Restored(_) => false,
-        Back::Own(_) => true,
-        Back::Behind(_, _) => false,
-        Back::Ahead(_, _) => false,
-    }
+    reaches_up(log, s, x, y) || reaches_down(log, s, x, y)
 }
 
 // c, a name that stands in s, has no end marker from its tuple `from` on, or is not taken back to tuples of its own.
@@ -622,10 +526,7 @@ fn is_clear(log: &[u8], author: Author, s: &[u8], c: Span, from: usize) -> bool
     requires { (is_log log.now ≡ true) × Lies s.now c × (is_name (row_at s.now c) ≡ true) × (from ≤ limit) }
     ensures { result ≡ clear_from author (names_of log.now) from (row_at s.now c) }
 {
-    if is_unmarked(s, c, from) {
-        return true;
-    }
-    !is_own(back_of(log, author, s, c))
+    is_unmarked(s, c, from) || !matches!(back_of(log, author, s, c), Back::Own(_))
 }
 
 // So it is of every name of the page. Where the log has none from there on either, and no name of fewer tuples, no two names could meet: that is a theorem,
@@ -634,17 +535,12 @@ pub fn all_clear(page: &[u8], log: &[u8], author: Author, from: usize) -> bool
     requires { (keeps_layout page.now ≡ true) × (is_log log.now ≡ true) × (from ≤ limit) }
     ensures { result ≡ list_all (clear_from author (names_of log.now) from) (names_of page.now) }
 {
-    let n = page.len() / SLOT;
-    let mut k: usize = 0;
-    loop {
-        if n <= k {
-            break true;
-        }
+    for k in 0..page.len() / SLOT {
         if !is_clear(log, author, page, pages::span_of(page, k), from) {
-            break false;
+            return false;
         }
-        k += 1;
     }
+    true
 }
 
 // ── taking one name back: alone ──
@@ -654,12 +550,7 @@ fn is_within(log: &[u8], k: usize, s: &[u8], t: Span) -> bool
     requires { (k + 1 < length (names_of log.now)) × Lies s.now t }
     ensures { result ≡ in_gap (names_of log.now) k (row_at s.now t) }
 {
-    match against(log, k, s, t) {
-        Ordering::Less => return false,
-        Ordering::Equal => return false,
-        Ordering::Greater => {}
-    }
-    against(log, k + 1, s, t).is_lt()
+    against(log, k, s, t).is_gt() && against(log, k + 1, s, t).is_lt()
 }
 
 // "c = N(k), 0 ≤ k < n", or "c = N(k)·t" with t above r(k) and below r(k+1).
@@ -668,22 +559,7 @@ fn alone_within(log: &[u8], author: Author, s: &[u8], c: Span) -> bool
     requires n { (N (first_position (names_of log.now)) author 0 ≤ⁿ row_at s.now c) × (row_at s.now c ≤ⁿ N (first_position (names_of log.now)) author (length (names_of log.now) - 1)) }
     ensures { result ≡ alone_within (names_of log.now) (row_at s.now c) }
 {
-    if c.count < 2 {
-        return true;
-    }
-    is_within(log, index_of(s, c), s, without(s, c, 1))
-}
-
-// A name that stands in s is above r(k).
-fn is_over(log: &[u8], k: usize, s: &[u8], v: Span) -> bool
-    requires { Lies s.now v }
-    ensures { result ≡ is_above (row_at s.now v) (get_or (names_of log.now) k []) }
-{
-    match against(log, k, s, v) {
-        Ordering::Less => false,
-        Ordering::Equal => false,
-        Ordering::Greater => true,
-    }
+    c.count < 2 || is_within(log, index_of(s, c), s, without(s, c, 1))
 }
 
 // c, a name that stands in s, is taken back to a name of the log or to tuples of its own, and no marker is put. A book of which this holds
@@ -694,23 +570,20 @@ pub fn is_alone(log: &[u8], author: Author, s: &[u8], c: Span) -> bool
 {
     let p = first_position(log);
     if is_below(s, c, lead(p, author, 0)) {
-        return against(log, 0, s, without(s, c, strip_below(p, author, s, c))).is_lt();
+        let cut = strip_below(p, author, s, c);
+        return against(log, 0, s, without(s, c, cut)).is_lt();
     }
     let last = log.len() / SLOT - 1;
     if is_above(s, c, numbered(p, author, last)) {
-        return is_over(
-            log,
-            last,
-            s,
-            without(s, c, strip_above(p, author, last, s, c)),
-        );
+        let cut = strip_above(p, author, last, s, c);
+        return against(log, last, s, without(s, c, cut)).is_gt();
     }
     alone_within(log, author, s, c)
 }
 
-// What becomes of a name that is taken back alone: the first two shapes of `Back`. Nothing here is passed on to where names are joined, so that
-// it stays in registers.
-#[derive(Clone, Copy)]
+// What becomes of a name that is taken back alone: the first two shapes of `Back`, an enum of their own, since this one stays in registers, where the
+// whole `Back`, which is passed on to where names are joined, was measured to be kept in memory, byte by byte.
+#[derive(Clone, Copy, Debug, PartialEq, Eq)]
 pub enum Single {
     // r(k)
     Logged(usize),
@@ -749,14 +622,14 @@ fn rest(s: &[u8], c: Span, cut: usize) -> Name
 }
 
 // r·m·v
-fn behind(r: Name, v: Name) -> Joined
+fn behind(r: Name, v: Name) -> Option<Name>
     ensures { Gives result (row_of r ++ (m ∷ row_of v)) }
 {
     name_values::join_by(r, name_values::low_marker(), v)
 }
 
 // "one below r0, then M, then v", with any name of the log for r0.
-fn ahead(r: Name, v: Name) -> Joined
+fn ahead(r: Name, v: Name) -> Option<Name>
     requires { is_name (row_of r) ≡ true }
     ensures { Gives result (one_below (row_of r) ++ (M ∷ row_of v)) }
 {
@@ -764,20 +637,20 @@ fn ahead(r: Name, v: Name) -> Joined
 }
 
 // The name of that shape.
-fn made(log: &[u8], s: &[u8], c: Span, back: Back) -> Joined
+fn made(log: &[u8], s: &[u8], c: Span, back: Back) -> Option<Name>
     requires { (is_log log.now ≡ true) × Lies s.now c × Stands (row_at s.now c) (names_of log.now) back }
     ensures { Gives result (shaped (row_at s.now c) (names_of log.now) back) }
 {
     match back {
-        Back::Restored(k) => whole(pages::name_of(log, k)),
-        Back::Own(cut) => whole(rest(s, c, cut)),
+        Back::Restored(k) => Some(pages::name_of(log, k)),
+        Back::Own(cut) => Some(rest(s, c, cut)),
         Back::Behind(k, cut) => behind(pages::name_of(log, k), rest(s, c, cut)),
         Back::Ahead(k, cut) => ahead(pages::name_of(log, k), rest(s, c, cut)),
     }
 }
 
-// One name, taken back; it has more than LIMIT tuples where it does not fit.
-pub fn take_back_name(log: &[u8], author: Author, c: Name) -> Joined
+// One name, taken back; none where it has more than LIMIT tuples.
+pub fn take_back_name(log: &[u8], author: Author, c: Name) -> Option<Name>
     requires { is_log log.now ≡ true }
     ensures { Gives result (take_back_row author (names_of log.now) (row_of c)) }
 {

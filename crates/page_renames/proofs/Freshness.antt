@@ -9,12 +9,9 @@ use Rattle.names.specs.declared.Author.{Author}
 use Rattle.names.specs.declared.Tuple.{Tuple}
 use Rattle.name_renames.specs.Renaming.{fresh}
 use Rattle.numbers.specs.Bytes.{Bytes}
-use Rattle.std.specs.List.{list_all}
 use Rattle.slots.specs.Tuples.{tuple_at}
-use Rattle.slots.specs.Slots.{head_size, depth_of, name_of, slot_of, keeps_slot}
+use Rattle.slots.specs.Slots.{head_size, depth_of, name_of, keeps_slot}
 use Rattle.slots.proofs.RoundTrip.{kept}
-use Rattle.pages.specs.Pages.{parts_of, slots_of, name_in, names_of}
-use Rattle.numbers.proofs.Every.{every_map}
 
 module _ (author : Author) where
   deep : (s : Bytes) (n : ℕ) → depth_of s ≡ suc n →
@@ -28,12 +25,10 @@ module _ (author : Author) where
         let d : depth_of s ≡ suc (depth_of s - 1) = omega (arith, (kept s v).deep) in
         ap (λ (u : Tuple). not (eqb u.node author.node && eqb u.sequence author.sequence)) e ∙ sym (deep s (depth_of s - 1) d)
 
-    pub other_node : (t.node ≡ author.node → ⊥) → true ≡ fresh author (name_of s)
-    other_node h = sym (ap (λ (b : Bool). not (b && eqb t.sequence author.sequence)) (ne_eqb t.node author.node h)) ∙ first
+    pub other_node : (t.node ≡ author.node → ⊥) → not (eqb t.node author.node) ≡ fresh author (name_of s)
+    other_node h =
+        let e = ne_eqb t.node author.node h in
+        ap not e ∙ sym (ap (λ (b : Bool). not (b && eqb t.sequence author.sequence)) e) ∙ first
 
     pub same_node : t.node ≡ author.node → not (eqb t.sequence author.sequence) ≡ fresh author (name_of s)
     same_node h = sym (ap (λ (b : Bool). not (b && eqb t.sequence author.sequence)) (eq-eqb t.node author.node h)) ∙ first
-
-  -- of every slot
-  pub by_slots : (page : Bytes) → list_all (λ (s : Bytes). fresh author (name_of s)) (parts_of page) ≡ list_all (fresh author) (names_of page)
-  by_slots page = sym (every_map (fresh author) name_in (slots_of page) ∙ every_map (λ x. fresh author (name_in x)) slot_of (parts_of page))

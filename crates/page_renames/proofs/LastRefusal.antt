@@ -30,8 +30,8 @@ use Rattle.numbers.proofs.Lists.{flat, flat_none}
 use Rattle.std.specs.declared.result.Result.{Result}
 use Rattle.std.specs.declared.result.Result.TheVariants.{Ok, Err}
 use Rattle.page_renames.specs.Renames.{carry, carried, all_fit, opening_tests, rename_tests, take_back_tests}
-use Rattle.page_renames.proofs.Books.{past}
-use Rattle.page_renames.proofs.FirstRefusal.{asked, all_pass, first_fails}
+use Rattle.page_renames.proofs.Books.{past, all_asked}
+use Rattle.answers.proofs.Checked.{all_pass, first_fails}
 
 -- results that fit fill a slot each
 bytes_long : (f : Row → Row) (l : List Slot) → list_all fits (map f (map name_in l)) ≡ true → length (flatten (pieces (carried f l))) ≡ slot_size * length l
@@ -45,6 +45,16 @@ bytes_long f (x ∷ l) t =
     let b = bytes_long f l (and_1 this others t) in
     ap length (flat bytes (pieces (carried f l))) ∙ length-append bytes rest ∙ omega arith
 
+-- what a check answers that gives no number
+abbrev Told : Type 0
+Told = Result (Unit {0}) Refusal
+
+abbrev refuse_with : Refusal → Told
+refuse_with r = Err r
+
+abbrev goes_on : Told
+goes_on = Ok tt
+
 -- f is what becomes of a name, and where the call's own tests pass every result fits
 module _ (page log : Bytes) (author : Author) (own : List Test) (f : Row → Row) (fit : AllPass own → all_fit f page ≡ true) (room : ℕ) where
   abbrev slots : List Bytes
@@ -55,19 +65,19 @@ module _ (page log : Bytes) (author : Author) (own : List Test) (f : Row → Row
   told = in_order (opening_tests page log author) refuse (in_order own refuse (write slots room))
 
   -- the first check has passed, and x is what the second has answered
-  module _ (e : in_order (opening_tests page log author) Err (Ok tt) ≡ (Ok tt)) {x : (Result Unit Refusal)} (o : x ≡ in_order own Err (Ok tt)) where
-    pub own_refused : (r : Refusal) → x ≡ Err r → told ≡ refuse r
-    own_refused r i = past page log author (asked page log author e) _ ∙ failed refuse (write slots room) own (first_fails own o i)
+  module _ (e : AllPass (opening_tests page log author)) {x : Told} (o : x ≡ in_order own refuse_with goes_on) where
+    pub own_refused : (r : Refusal) → x ≡ refuse_with r → told ≡ refuse r
+    own_refused r i = past page log author (all_asked page log author e) _ ∙ failed refuse (write slots room) own (first_fails own o i)
 
-    module _ (i : x ≡ (Ok tt)) where
+    module _ (i : x ≡ goes_on) where
       pub all_fit_lem : all_fit f page ≡ true
       all_fit_lem = fit (all_pass own o i)
 
       on : told ≡ write slots room
-      on = past page log author (asked page log author e) _ ∙ passed refuse (write slots room) own (all_pass own o i)
+      on = past page log author (all_asked page log author e) _ ∙ passed refuse (write slots room) own (all_pass own o i)
 
       as_long : length (flatten slots) ≡ length page
-      as_long = bytes_long f (slots_of page) all_fit_lem ∙ omega (arith, length_slots page, (laid page (asked page log author e).layout).whole)
+      as_long = bytes_long f (slots_of page) all_fit_lem ∙ omega (arith, length_slots page, (laid page (all_asked page log author e).layout).whole)
 
       pub short : room < length page → told ≡ refuse Short
       short h = on ∙ writes_short slots room (omega (arith, as_long))

@@ -1,9 +1,9 @@
 pub mod Freshness
+pub mod Opening
 pub mod PageWalk
 pub mod Carried
 pub mod SlotBySlot
 pub mod Books
-pub mod FirstRefusal
 pub mod AloneNames
 pub mod ClearBooks
 pub mod BackPairs

@@ -2,7 +2,7 @@
 use mathlib.Core.Path.{◌≡◌, refl, ◌∙◌, sym, ap}
 use mathlib.Core.List.{List, [], ◌∷◌, map}
 use mathlib.Core.Bool.{Bool, true, ◌&&◌, ◌||◌, and_assoc, and-true}
-use Prim.Native.Nat.{ℕ, zero, suc, ◌+◌, ◌-◌, ◌*◌, ◌/◌, ◌<◌, ◌≤◌}
+use Prim.Native.Nat.{ℕ, zero, suc, ◌+◌, ◌-◌, ◌/◌, ◌<◌, ◌≤◌}
 use native.Mathlib.Numerals.{add-one}
 use native.Mathlib.Omega.{arith}
 use borrow.Author.Tests.{le-ltb}
@@ -14,27 +14,30 @@ use Rattle.std.specs.Ordering.{is_lt}
 use Rattle.names.proofs.Laws.{rising_Rising}
 use Rattle.numbers.specs.Bytes.{Bytes}
 use Rattle.std.specs.List.{list_all}
-use Rattle.names.specs.Names.{limit}
-use Rattle.slots.specs.Slots.{slot_size, name_of, keeps_slot}
-use Rattle.numbers.proofs.Every.{every_at, every_end}
-use Rattle.pages.specs.Pages.{names_of, keeps_layout, rises}
+use Rattle.slots.specs.Slots.{slot_size, slot_of, name_of, keeps_slot}
+use Rattle.std.proofs.lemmas.List.Folds.{list_all-map}
+use Rattle.numbers.proofs.Every.{every_at, every_each, every_end}
+use Rattle.pages.specs.Pages.{parts_of, slots_of, name_in, names_of, keeps_layout, rises}
 use Rattle.pages.specs.Places.{below}
-use Rattle.pages.proofs.SlotBySlot.{lent, lent_name, lent_keeps, length_names, rising_cons}
+use Rattle.pages.proofs.SlotBySlot.{length_names, rising_cons}
 use Rattle.pages.proofs.RoundTrip.{laid}
 use Rattle.pages.proofs.FindByHalving.{index_below}
 use Rattle.one_name.proofs.PlaceInLog.{place_grows}
 
-module _ (page : Bytes) (i : ℕ) (h : i < length page / slot_size) where
-  -- the name of the slot that is lent
-  pub name_lent : name_of (lent page (slot_size * i)) ≡ get_or (names_of page) i []
-  name_lent = lent_name page (length page / slot_size) i (slot_size * i) refl h
+-- slot i as the code finds it, among the slots
+module _ (page : Bytes) (i : ℕ) {slots : List Bytes} (e : slots ≡ parts_of page) where
+  pub slot_name : name_of (get_or slots i []) ≡ get_or (names_of page) i []
+  slot_name =
+      ap (λ (l : List Bytes). name_of (get_or l i [])) e
+      ∙ ap name_in (sym (get_or-map slot_of (parts_of page) i []))
+      ∙ sym (get_or-map name_in (slots_of page) i (slot_of []))
 
+  pub slot_keeps : i < length slots → keeps_layout page ≡ true → keeps_slot (get_or slots i []) ≡ true
+  slot_keeps h k = every_each keeps_slot slots i [] h (ap (list_all keeps_slot) e ∙ (laid page k).good)
+
+module _ (page : Bytes) (i : ℕ) (h : i < length page / slot_size) where
   pub within_names : i < length (names_of page)
   within_names = omega (arith, length_names page (length page / slot_size))
-
-  -- .. which keeps the layout
-  pub keeps_lent : keeps_layout page ≡ true → keeps_slot (lent page (slot_size * i)) ≡ true
-  keeps_lent k = lent_keeps limit page (length page / slot_size) i h (laid page k).good
 
   -- the test t of what f makes of name i, and what is left after it
   pub result_at : (f : Row → Row) (t : Row → Bool) {b : Bool} → b ≡ t (f (get_or (names_of page) i [])) →
@@ -51,6 +54,14 @@ module _ (page : Bytes) (i : ℕ) (h : i < length page / slot_size) where
       let l : i + 1 < length (names_of page) = omega (arith, length_names page (length page / slot_size)) in
       let p = place_grows (get_or (names_of page) i []) (get_or (names_of page) (i + 1) []) log (index_below o i (i + 1) (omega arith) l) in
       omega arith
+
+-- a test of every name, slot by slot
+pub by_slots : (t : Row → Bool) (page : Bytes) → list_all (λ (s : Bytes). t (name_of s)) (parts_of page) ≡ list_all t (names_of page)
+by_slots t page = sym (list_all-map t name_in (slots_of page) ∙ list_all-map (λ x. t (name_in x)) slot_of (parts_of page))
+
+-- .. of what f makes of it
+pub results_by_slots : (f : Row → Row) (t : Row → Bool) (page : Bytes) → list_all (λ (s : Bytes). t (f (name_of s))) (parts_of page) ≡ list_all t (map f (names_of page))
+results_by_slots f t page = by_slots (λ x. t (f x)) page ∙ sym (list_all-map t f (names_of page))
 
 -- no name is left
 pub results_end : (page : Bytes) (i : ℕ) (f : Row → Row) (t : Row → Bool) → length page / slot_size ≤ i → true ≡ list_all t (drop i (map f (names_of page)))

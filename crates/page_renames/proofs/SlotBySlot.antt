@@ -10,14 +10,14 @@ use lib.ListN.{length, get_or, length-map, get_or-map}
 use Rattle.names.specs.Ordering.{Row}
 use Rattle.names.specs.Names.{limit, fits}
 use Rattle.numbers.specs.Bytes.{Bytes, put}
-use Rattle.slots.specs.Slots.{Slot, slot_size, name_of, line_of, slot_of, slot_bytes}
+use Rattle.slots.specs.Slots.{Slot, slot_size, name_of, slot_of, slot_bytes}
 use Rattle.numbers.proofs.Every.{every_each}
 use Rattle.numbers.proofs.Pieces.{standing as slots_standing, standing_first as slots_first, standing_last as slots_last, standing_on as slots_on, same_room as slots_room}
 use Rattle.slots.proofs.RoundTrip.{slot_length}
 use Rattle.pages.specs.Pages.{parts_of, slots_of, names_of, pieces}
-use Rattle.pages.proofs.SlotBySlot.{lent, lent_part, length_parts}
+use Rattle.pages.proofs.SlotBySlot.{length_parts}
 use Rattle.page_renames.specs.Renames.{carry, carried, all_fit}
-use Rattle.page_renames.proofs.PageWalk.{name_lent, within_names}
+use Rattle.page_renames.proofs.PageWalk.{slot_name, within_names}
 
 module _ (f : Row → Row) (page : Bytes) where
   abbrev all : List Bytes
@@ -39,29 +39,27 @@ module _ (f : Row → Row) (page : Bytes) where
   standing_last o i h = slots_last slot_size all o i (omega (arith, length_all))
 
   module _ (i : ℕ) (h : i < length page / slot_size) (t : all_fit f page ≡ true) where
-    -- the slot that is lent, with what f makes of its name
-    abbrev piece : Bytes
-    piece = slot_bytes (record { line = line_of (lent page (slot_size * i)); name = f (name_of (lent page (slot_size * i))) })
+    -- slot i, with what f makes of its name
+    abbrev pub piece : Bytes
+    piece = slot_bytes (carry f (slot_of (get_or (parts_of page) i [])))
 
-    pub fit : fits (f (name_of (lent page (slot_size * i)))) ≡ true
+    pub fit : fits (f (get_or (names_of page) i [])) ≡ true
     fit =
         let n = within_names page i h in
         let l : i < length (map f (names_of page)) = omega (arith, length-map (names_of page) f) in
-        ap (λ (a : Row). fits (f a)) (name_lent page i h)
-        ∙ ap fits (sym (get_or-map f (names_of page) i []))
-        ∙ every_each fits (map f (names_of page)) i (f []) l t
+        ap fits (sym (get_or-map f (names_of page) i [])) ∙ every_each fits (map f (names_of page)) i (f []) l t
 
     piece_is : get_or all i (slot_bytes (carry f (slot_of []))) ≡ piece
     piece_is =
         get_or-map slot_bytes (carried f (slots_of page)) i (carry f (slot_of []))
         ∙ ap slot_bytes (get_or-map (carry f) (slots_of page) i (slot_of []))
         ∙ ap (λ (x : Slot). slot_bytes (carry f x)) (get_or-map slot_of (parts_of page) i [])
-        ∙ ap (λ (s : Bytes). slot_bytes (carry f (slot_of s))) (sym (lent_part page (length page / slot_size) i (slot_size * i) refl h))
 
     long : length piece ≡ slot_size
     long =
-        let slot = lent page (slot_size * i) in
-        slot_length (record { line = line_of slot; name = f (name_of slot) }) (leb-true (length (f (name_of slot))) limit fit)
+        let slot = get_or (parts_of page) i [] in
+        let same : fits (f (name_of slot)) ≡ true = ap (λ (a : Row). fits (f a)) (slot_name page i refl) ∙ fit in
+        slot_length (carry f (slot_of slot)) (leb-true (length (f (name_of slot))) limit same)
 
     module _ (o o' : Bytes) (r : length page ≤ length o) (e : o' ≡ put o (slot_size * i) piece) where
       within : i < length all

@@ -12,7 +12,8 @@ ghost use Rattle.std.specs.List.{list_all};
 ghost use Rattle.numbers.specs.Bytes.{put};
 ghost use Rattle.slots.specs.Slots.{slot_size, name_of, slot_of, slot_bytes, keeps_slot};
 ghost use Rattle.pages.specs.Pages.{keeps_layout, parts_of, slots_of, names_of, pieces, rises, is_log};
-ghost use Rattle.answers.specs.Answers.{ask, in_order, leaves};
+ghost use Rattle.answers.specs.Answers.{in_order, leaves};
+ghost use Rattle.answers.specs.Laws.{Passed};
 ghost use Rattle.name_renames.specs.Renaming.{rename as rename_row, take_back as take_back_row, fresh};
 ghost use Rattle.name_renames.specs.Alone.{alone as is_alone};
 ghost use Rattle.one_name.specs.Backs.{deepest_of, shallowest_of};
@@ -23,7 +24,7 @@ ghost use Rattle.page_renames.specs.Renames.{carry, carried, all_fit, opening_te
 use answers::{Answer, Refusal};
 use names::{Author, LIMIT};
 use one_name::Stem;
-use slots::{HEAD, SLOT, Seen, Span};
+use slots::{HEAD, SLOT, Span};
 
 // ── renaming a page: what decides ──
 
@@ -33,10 +34,7 @@ fn is_fresh(slot: &[u8], author: Author) -> bool
     ensures { result ≡ fresh author (name_of slot.now) }
 {
     let t = slots::read_tuple(slot, HEAD);
-    if t.node != author.node {
-        return true;
-    }
-    t.sequence != author.sequence
+    t.node != author.node || t.sequence != author.sequence
 }
 
 // "no name .. has (A, s) as node and sequence of its first tuple", of a page or of a log.
@@ -44,15 +42,11 @@ fn all_fresh(page: &[u8], author: Author) -> bool
     requires { keeps_layout page.now ≡ true }
     ensures { result ≡ list_all (fresh author) (names_of page.now) }
 {
-    let n = page.len() / SLOT;
-    let mut k: usize = 0;
-    while k < n {
-        let at = SLOT * k;
-        let end = at + SLOT;
-        if !is_fresh(&page[at..end], author) {
+    let (slots, _) = page.as_chunks::<SLOT>();
+    for slot in slots {
+        if !is_fresh(slot, author) {
             return false;
         }
-        k += 1;
     }
     true
 }
@@ -77,15 +71,11 @@ fn all_renamed_fit(page: &[u8], log: &[u8], author: Author) -> bool
     requires { (keeps_layout page.now ≡ true) × (is_log log.now ≡ true) }
     ensures { result ≡ all_fit (rename_row author (names_of log.now)) page.now }
 {
-    let n = page.len() / SLOT;
-    let mut i: usize = 0;
-    while i < n {
-        let at = SLOT * i;
-        let end = at + SLOT;
-        if !renamed_fits(log, author, &page[at..end]) {
+    let (slots, _) = page.as_chunks::<SLOT>();
+    for slot in slots {
+        if !renamed_fits(log, author, slot) {
             return false;
         }
-        i += 1;
     }
     true
 }
@@ -99,18 +89,13 @@ fn write_renamed(page: &[u8], log: &[u8], author: Author, out: &mut [u8])
     requires page_value_2 { all_fit (rename_row author (names_of log.now)) page.now ≡ true }
     ensures { out.new ≡ put out.old 0 (flatten (pieces (carried (rename_row author (names_of log.now)) (slots_of page.now)))) }
 {
-    let n = page.len() / SLOT;
-    let mut i: usize = 0;
-    let mut j: usize = 0;
-    while i < n {
-        let at = SLOT * i;
-        let end = at + SLOT;
-        let w = one_name::walk(log, author, page, pages::span_of(page, i), j);
-        let case = w.case;
-        let change = one_name::change_of(log, author, case);
-        renamed_slots::write_changed(out, at, &page[at..end], change);
-        j = w.below;
-        i += 1;
+    let (slots, _) = page.as_chunks::<SLOT>();
+    let mut below: usize = 0;
+    for (i, slot) in slots.iter().enumerate() {
+        let walked = one_name::walk(log, author, page, pages::span_of(page, i), below);
+        let change = one_name::change_of(log, author, walked.case);
+        renamed_slots::write_changed(out, SLOT * i, slot, change);
+        below = walked.below;
     }
 }
 
@@ -120,15 +105,15 @@ fn write_one_back(page: &[u8], log: &[u8], author: Author, alone: bool, i: usize
     requires i_value { (fits (take_back_row author (names_of log.now) (get_or (names_of page.now) i [])) ≡ true) × (alone ≡ true → is_alone author (names_of log.now) (get_or (names_of page.now) i []) ≡ true) }
     ensures { out.new ≡ put out.old (slot_size * i) (slot_bytes (carry (take_back_row author (names_of log.now)) (slot_of (get_or (parts_of page.now) i [])))) }
 {
-    let at = SLOT * i;
-    let end = at + SLOT;
+    let (slots, _) = page.as_chunks::<SLOT>();
+    let slot = &slots[i];
     let c = pages::span_of(page, i);
     if alone {
         let single = one_name::alone_of(log, author, page, c);
-        renamed_slots::write_single(out, at, &page[at..end], log, single);
+        renamed_slots::write_single(out, SLOT * i, slot, log, single);
     } else {
         let back = one_name::back_of(log, author, page, c);
-        renamed_slots::write_back(out, at, &page[at..end], log, back);
+        renamed_slots::write_back(out, SLOT * i, slot, log, back);
     }
 }
 
@@ -139,35 +124,19 @@ fn write_back(page: &[u8], log: &[u8], author: Author, alone: bool, out: &mut [u
     requires page_value_3 { alone ≡ true → list_all (is_alone author (names_of log.now)) (names_of page.now) ≡ true }
     ensures { out.new ≡ put out.old 0 (flatten (pieces (carried (take_back_row author (names_of log.now)) (slots_of page.now)))) }
 {
-    let n = page.len() / SLOT;
-    let mut i: usize = 0;
-    while i < n {
+    for i in 0..page.len() / SLOT {
         write_one_back(page, log, author, alone, i, out);
-        i += 1;
     }
 }
 
 // ── the calls ──
 
-// What stands before a rename or a taking back: a refusal, or none so far.
-#[derive(Clone, Copy)]
-enum Checked {
-    Refused(Refusal),
-    Passed,
-}
-
 // 1, 2, 3, 4.
-fn check(page: &[u8], log: &[u8], author: Author) -> Checked
+fn check(page: &[u8], log: &[u8], author: Author) -> Result<(), Refusal>
     ensures { result ≡ in_order (opening_tests page.now log.now author) Err (Ok tt) }
 {
-    match pages::look(page) {
-        Seen::Broken => return Err(Refusal::BadLayout),
-        Seen::NotRising => return Err(Refusal::NotRising),
-        Seen::Rising => {}
-    }
-    if !pages::log_ok(log) {
-        return Err(Refusal::BadLog);
-    }
+    pages::check_page(page)?;
+    pages::check_log(log)?;
     if author.node < 1 {
         return Err(Refusal::NoAuthor);
     }
@@ -175,8 +144,8 @@ fn check(page: &[u8], log: &[u8], author: Author) -> Checked
 }
 
 // 5, 6.
-fn check_rename(page: &[u8], log: &[u8], author: Author) -> Checked
-    requires { in_order (opening_tests page.now log.now author) Err (Ok tt) ≡ Ok tt }
+fn check_rename(page: &[u8], log: &[u8], author: Author) -> Result<(), Refusal>
+    requires { Passed (opening_tests page.now log.now author) }
     ensures { result ≡ in_order (rename_tests page.now log.now author) Err (Ok tt) }
 {
     if !all_fresh(page, author) {
@@ -196,12 +165,10 @@ fn pair_rises(page: &[u8], log: &[u8], author: Author, i: usize) -> bool
     requires { (keeps_layout page.now ≡ true) × (is_log log.now ≡ true) × (1 ≤ i) × (i < length (names_of page.now)) }
     ensures { result ≡ is_lt (compare_rows (take_back_row author (names_of log.now) (get_or (names_of page.now) (i - 1) [])) (take_back_row author (names_of log.now) (get_or (names_of page.now) i []))) }
 {
-    let before = SLOT * (i - 1);
-    let at = before + SLOT;
-    let end = at + SLOT;
+    let (slots, _) = page.as_chunks::<SLOT>();
     let last = one_name::back_of(log, author, page, pages::span_of(page, i - 1));
     let here = one_name::back_of(log, author, page, pages::span_of(page, i));
-    renamed_slots::backs_rise(&page[before..at], last, &page[at..end], here, log)
+    renamed_slots::backs_rise(&slots[i - 1], last, &slots[i], here, log)
 }
 
 // It went so before, and slot i, where it is not the first, rises too. The two names are compared only where a marker stands so that they could meet:
@@ -232,22 +199,11 @@ fn still_rises(
     pair_rises(page, log, author, i)
 }
 
-// 7, where the results do not rise.
-fn check_rising(rises: bool) -> Checked
-    ensures { result ≡ ask rises (Checked.Err Refusal.NotRisingBack) Checked.Passed }
-{
-    if !rises {
-        return Err(Refusal::NotRisingBack);
-    }
-    Ok(())
-}
-
 // 6, 7 of any page: one walk along it, which keeps the stem of the name before.
-fn check_back(page: &[u8], log: &[u8], author: Author) -> Checked
-    requires { in_order (opening_tests page.now log.now author) Err (Ok tt) ≡ Ok tt }
+fn check_back(page: &[u8], log: &[u8], author: Author) -> Result<(), Refusal>
+    requires { Passed (opening_tests page.now log.now author) }
     ensures { result ≡ in_order (take_back_tests page.now log.now author) Err (Ok tt) }
 {
-    let n = page.len() / SLOT;
     let mut last = Stem {
         behind: false,
         ahead: false,
@@ -256,21 +212,20 @@ fn check_back(page: &[u8], log: &[u8], author: Author) -> Checked
         depth: 0,
     };
     let mut rises = true;
-    let mut i: usize = 0;
-    loop {
-        if n <= i {
-            break check_rising(rises);
-        }
+    for i in 0..page.len() / SLOT {
         let c = pages::span_of(page, i);
         let back = one_name::back_of(log, author, page, c);
         let here = one_name::stem_of(log, page, c, back);
         if LIMIT < here.depth {
-            break Err(Refusal::TooDeep);
+            return Err(Refusal::TooDeep);
         }
         rises = still_rises(page, log, author, rises, i, last, here);
         last = here;
-        i += 1;
     }
+    if !rises {
+        return Err(Refusal::NotRisingBack);
+    }
+    Ok(())
 }
 
 // Every name of the page is taken back alone: to a name of the log, or to tuples of its own.
@@ -278,17 +233,12 @@ fn all_alone(page: &[u8], log: &[u8], author: Author) -> bool
     requires { is_log log.now ≡ true }
     ensures { result ≡ list_all (is_alone author (names_of log.now)) (names_of page.now) }
 {
-    let n = page.len() / SLOT;
-    let mut i: usize = 0;
-    loop {
-        if n <= i {
-            break true;
-        }
+    for i in 0..page.len() / SLOT {
         if !one_name::is_alone(log, author, page, pages::span_of(page, i)) {
-            break false;
+            return false;
         }
-        i += 1;
     }
+    true
 }
 
 // No name of the log has an end marker behind as many tuples as every name of the log has, and no name of the page that is taken back to tuples of its own,
@@ -310,8 +260,8 @@ fn is_clear(page: &[u8], log: &[u8], author: Author) -> bool
 // 6, 7, where a theorem does not answer both for the whole page. If every name is taken back alone, each has at most LIMIT tuples and they rise, markers
 // or not: `alone_fits` and `alone_mono` (name_renames/proofs/Alone.antt; in specs/Laws.antt `alone_is` and `alone_kept`). If page and log are clear, so
 // it is by `back_depth` (name_renames/proofs/BackDepth.antt) and `clear_kept` (one_name/proofs/Neighbours.antt; in specs/Laws.antt `clear_kept`).
-fn check_names(page: &[u8], log: &[u8], author: Author, alone: bool) -> Checked
-    requires author_value { in_order (opening_tests page.now log.now author) Err (Ok tt) ≡ Ok tt }
+fn check_names(page: &[u8], log: &[u8], author: Author, alone: bool) -> Result<(), Refusal>
+    requires author_value { Passed (opening_tests page.now log.now author) }
     requires page_value { alone ≡ true → list_all (is_alone author (names_of log.now)) (names_of page.now) ≡ true }
     ensures { result ≡ in_order (take_back_tests page.now log.now author) Err (Ok tt) }
 {
@@ -326,43 +276,31 @@ fn check_names(page: &[u8], log: &[u8], author: Author, alone: bool) -> Checked
 
 // 5, 6, 8; else the page renamed. Nothing is written before every refusal is ruled out.
 fn rename_checked(page: &[u8], log: &[u8], author: Author, out: &mut [u8]) -> Answer
-    requires { in_order (opening_tests page.now log.now author) Err (Ok tt) ≡ Ok tt }
+    requires { Passed (opening_tests page.now log.now author) }
     ensures value { result ≡ (rename_outcome page.now log.now author (length out.old)).answer }
     ensures out_after { out.new ≡ leaves (rename_outcome page.now log.now author (length out.old)) out.old }
 {
-    let checked = check_rename(page, log, author);
-    match checked {
-        Err(r) => Err(r),
-        Ok(()) => {
-            if out.len() < page.len() {
-                return Err(Refusal::Short);
-            }
-            write_renamed(page, log, author, out);
-            let renamed = page.len() / SLOT;
-            Ok(renamed)
-        }
+    check_rename(page, log, author)?;
+    if out.len() < page.len() {
+        return Err(Refusal::Short);
     }
+    write_renamed(page, log, author, out);
+    Ok(page.len() / SLOT)
 }
 
 // 6, 7, 8; else the page taken back. Nothing is written before every refusal is ruled out.
 fn take_back_checked(page: &[u8], log: &[u8], author: Author, out: &mut [u8]) -> Answer
-    requires { in_order (opening_tests page.now log.now author) Err (Ok tt) ≡ Ok tt }
+    requires { Passed (opening_tests page.now log.now author) }
     ensures value { result ≡ (take_back_outcome page.now log.now author (length out.old)).answer }
     ensures out_after { out.new ≡ leaves (take_back_outcome page.now log.now author (length out.old)) out.old }
 {
     let alone = all_alone(page, log, author);
-    let checked = check_names(page, log, author, alone);
-    match checked {
-        Err(r) => Err(r),
-        Ok(()) => {
-            if out.len() < page.len() {
-                return Err(Refusal::Short);
-            }
-            write_back(page, log, author, alone, out);
-            let taken_back = page.len() / SLOT;
-            Ok(taken_back)
-        }
+    check_names(page, log, author, alone)?;
+    if out.len() < page.len() {
+        return Err(Refusal::Short);
     }
+    write_back(page, log, author, alone, out);
+    Ok(page.len() / SLOT)
 }
 
 // 1, 2, 3, 4, 5, 6, 8; else the page with its names renamed.
@@ -370,11 +308,8 @@ pub fn rename(page: &[u8], log: &[u8], author: Author, out: &mut [u8]) -> Answer
     ensures value { result ≡ (rename_outcome page.now log.now author (length out.old)).answer }
     ensures out_after { out.new ≡ leaves (rename_outcome page.now log.now author (length out.old)) out.old }
 {
-    let checked = check(page, log, author);
-    match checked {
-        Err(r) => Err(r),
-        Ok(()) => rename_checked(page, log, author, out),
-    }
+    check(page, log, author)?;
+    rename_checked(page, log, author, out)
 }
 
 // 1, 2, 3, 4, 6, 7, 8; else the page with its names taken back. "Taking back asks for no freshness."
@@ -382,9 +317,6 @@ pub fn take_back(page: &[u8], log: &[u8], author: Author, out: &mut [u8]) -> Ans
     ensures value { result ≡ (take_back_outcome page.now log.now author (length out.old)).answer }
     ensures out_after { out.new ≡ leaves (take_back_outcome page.now log.now author (length out.old)) out.old }
 {
-    let checked = check(page, log, author);
-    match checked {
-        Err(r) => Err(r),
-        Ok(()) => take_back_checked(page, log, author, out),
-    }
+    check(page, log, author)?;
+    take_back_checked(page, log, author, out)
 }

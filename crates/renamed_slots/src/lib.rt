@@ -39,11 +39,9 @@ fn write_led(out: &mut [u8], p: usize, slot: &[u8], t: Tuple)
     requires { (p + slot_size ≤ length out.old) × (keeps_slot slot.now ≡ true) × (depth_of slot.now < limit) }
     ensures { out.new ≡ put out.old p (slot_bytes (record { line = line_of slot.now; name = t ∷ name_of slot.now })) }
 {
-    let start = HEAD;
-    let end = LAST;
     slots::write_head(out, p, slots::depth(slot) + 1, slots::read_line(slot));
     slots::write_tuple(out, p + HEAD, t);
-    numbers::copy(out, p + HEAD + TUPLE, &slot[start..end]);
+    numbers::copy(out, p + HEAD + TUPLE, &slot[HEAD..LAST]);
 }
 
 // The tuple t in the name's place.
@@ -75,8 +73,10 @@ fn name_in(slot: &[u8]) -> Span
     requires { keeps_slot slot.now ≡ true }
     ensures { Lies slot.now result × (row_at slot.now result ≡ name_of slot.now) × (result.count ≡ length (name_of slot.now)) }
 {
-    let count = slots::depth(slot);
-    Span { at: HEAD, count }
+    Span {
+        at: HEAD,
+        count: slots::depth(slot),
+    }
 }
 
 // v, where it stands: the name without its first tuples.
@@ -92,9 +92,7 @@ fn count_joined(slot: &[u8], cut: usize, log: &[u8], k: usize) -> usize
     requires { (keeps_slot slot.now ≡ true) × (cut ≤ length (name_of slot.now)) }
     ensures { result ≡ length (get_or (names_of log.now) k []) + 1 + length (drop cut (name_of slot.now)) }
 {
-    let r = pages::span_of(log, k);
-    let v = own(slot, cut);
-    r.count + 1 + v.count
+    pages::span_of(log, k).count + 1 + own(slot, cut).count
 }
 
 // How many tuples the name taken back has.
@@ -103,16 +101,9 @@ fn count_back(slot: &[u8], log: &[u8], back: Back) -> usize
     ensures { result ≡ length (shaped (name_of slot.now) (names_of log.now) back) }
 {
     match back {
-        Back::Restored(k) => {
-            let r = pages::span_of(log, k);
-            r.count
-        }
-        Back::Own(cut) => {
-            let v = own(slot, cut);
-            v.count
-        }
-        Back::Behind(k, cut) => count_joined(slot, cut, log, k),
-        Back::Ahead(k, cut) => count_joined(slot, cut, log, k),
+        Back::Restored(k) => pages::span_of(log, k).count,
+        Back::Own(cut) => own(slot, cut).count,
+        Back::Behind(k, cut) | Back::Ahead(k, cut) => count_joined(slot, cut, log, k),
     }
 }
 
@@ -194,21 +185,14 @@ pub fn backs_rise(first: &[u8], a: Back, second: &[u8], b: Back, log: &[u8]) -> 
 {
     let n = count_back(first, log, a);
     let m = count_back(second, log, b);
-    let mut i: usize = 0;
-    loop {
-        if m <= i {
-            break false;
-        }
-        if n <= i {
-            break true;
-        }
-        match names::compare_tuples(tuple_back(first, log, a, i), tuple_back(second, log, b, i)) {
-            Ordering::Less => break true,
-            Ordering::Greater => break false,
+    for i in 0..n.min(m) {
+        match tuple_back(first, log, a, i).cmp(&tuple_back(second, log, b, i)) {
+            Ordering::Less => return true,
             Ordering::Equal => {}
+            Ordering::Greater => return false,
         }
-        i += 1;
     }
+    n < m
 }
 
 // ── taken back: written ──
@@ -218,9 +202,8 @@ fn write_name_of(out: &mut [u8], p: usize, slot: &[u8], other: &[u8])
     requires { (p + slot_size ≤ length out.old) × (length slot.now ≡ slot_size) × (keeps_slot other.now ≡ true) }
     ensures { out.new ≡ put out.old p (slot_bytes (record { line = line_of slot.now; name = name_of other.now })) }
 {
-    let start = HEAD;
     slots::write_head(out, p, slots::depth(other), slots::read_line(slot));
-    numbers::copy(out, p + HEAD, &other[start..]);
+    numbers::copy(out, p + HEAD, &other[HEAD..]);
 }
 
 // r(k)
@@ -229,8 +212,7 @@ fn write_restored(out: &mut [u8], p: usize, slot: &[u8], log: &[u8], k: usize)
     ensures { out.new ≡ put out.old p (slot_bytes (record { line = line_of slot.now; name = get_or (names_of log.now) k [] })) }
 {
     let at = SLOT * k;
-    let end = at + SLOT;
-    write_name_of(out, p, slot, &log[at..end]);
+    write_name_of(out, p, slot, &log[at..at + SLOT]);
 }
 
 // The name without its first tuple, and zeros in the last one's place.
@@ -238,9 +220,8 @@ fn write_tail(out: &mut [u8], p: usize, slot: &[u8])
     requires { (p + slot_size ≤ length out.old) × (keeps_slot slot.now ≡ true) }
     ensures { out.new ≡ put out.old p (slot_bytes (record { line = line_of slot.now; name = drop 1 (name_of slot.now) })) }
 {
-    let start = HEAD + TUPLE;
     slots::write_head(out, p, slots::depth(slot) - 1, slots::read_line(slot));
-    numbers::copy(out, p + HEAD, &slot[start..]);
+    numbers::copy(out, p + HEAD, &slot[HEAD + TUPLE..]);
     numbers::write_zeros(out, p + LAST, 3);
 }
 
@@ -277,10 +258,9 @@ fn write_joined(
     let first = r.count - 1;
     let count = r.count + 1 + v.count;
     let end = p + HEAD + TUPLE * first;
-    let from = SLOT * k + HEAD;
-    let to = SLOT * k + SLOT;
+    let at = SLOT * k;
     slots::write_head(out, p, count, slots::read_line(slot));
-    numbers::copy(out, p + HEAD, &log[from..to]);
+    numbers::copy(out, p + HEAD, &log[at + HEAD..at + SLOT]);
     slots::write_tuple(out, end, last);
     slots::write_tuple(out, end + TUPLE, marker);
     slots::copy_row(out, end + TUPLE + TUPLE, slot, v.at, v.count);

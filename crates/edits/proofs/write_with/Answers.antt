@@ -10,12 +10,6 @@ use Rattle.slots.specs.Slots.{slot_size}
 use Rattle.numbers.proofs.Put.{put_more}
 use Rattle.edits.proofs.write_with.Goals as goal
 
-pub slice_bounds-copy_long-end : goal.slice_bounds-copy_long-end
-slice_bounds-copy_long-end c = sym (length-take-le (slot_size * c.args.k) c.args.page.now c.requires.0)
-
-pub copy_long-requires : goal.copy_long-requires
-copy_long-requires c = omega (arith, length-take (slot_size * c.args.k) c.args.page.now)
-
 pub slice_bounds-copy-end : goal.slice_bounds-copy-end
 slice_bounds-copy-end c = sym (length-take-le slot_size c.args.slot.now (omega (arith, c.requires.1)))
 

@@ -1,19 +1,13 @@
 -- `edits::write_without` meets its contract. Assumes nothing.
 use Rattle.numbers.specs.Bytes.{Bytes, put}
-use lib.ListN.{length-drop, length, take, drop, length-take}
+use lib.ListN.{length-drop, length, take, drop}
 use lib.Seq.{take_all, length-take-le}
-use mathlib.Core.Path.{◌≡◌, ◌∙◌, sym, ap}
+use mathlib.Core.Path.{◌≡◌, ◌∙◌, ap}
 use Prim.Native.Nat.{◌+◌, ◌*◌, ◌-◌}
 use native.Mathlib.Omega.{arith}
 use Rattle.slots.specs.Slots.{slot_size}
 use Rattle.numbers.proofs.Put.{put_more}
 use Rattle.edits.proofs.write_without.Goals as goal
-
-pub slice_bounds-copy_long-end : goal.slice_bounds-copy_long-end
-slice_bounds-copy_long-end c = sym (length-take-le (slot_size * c.args.k) c.args.page.now (omega arith))
-
-pub copy_long-requires : goal.copy_long-requires
-copy_long-requires c = omega (arith, length-take (slot_size * c.args.k) c.args.page.now)
 
 pub returns : goal.returns
 returns c =

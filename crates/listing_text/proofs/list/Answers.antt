@@ -12,7 +12,7 @@ use Rattle.listing_text.proofs.list.Goals as goal
 pub put_lines-requires : goal.put_lines-requires
 put_lines-requires c =
     let page = c.args.page.now in
-    let k = accepted_layout page c.args.rest.now c.check_input-answer.ensures _ c.in-Ok.is in
+    let k = accepted_layout page c.args.rest.now c.check_input.ensures _ c.in-Ok.is in
     (k, omega (arith, (laid page k).few))
 
 pub returns-in-Ok : goal.returns-in-Ok
@@ -20,9 +20,9 @@ returns-in-Ok c =
     let page = c.args.page.now in
     let rest = c.args.rest.now in
     let o = c.args.out.now in
-    let k = accepted_layout page rest c.check_input-answer.ensures _ c.in-Ok.is in
+    let k = accepted_layout page rest c.check_input.ensures _ c.in-Ok.is in
     let w = wrote_more o 0 (omega arith) header (lines_text (slots_of page)) c.put_header-p.ensures c.put_lines.ensures.value in
-    let t = wrote_as o 0 (accepted_text page rest c.check_input-answer.ensures _ c.in-Ok.is) w in
+    let t = wrote_as o 0 (accepted_text page rest c.check_input.ensures _ c.in-Ok.is) w in
     record {
       value = (t.0 ∙ zero-add _, t.1);
       upper_bound = wrote_within o (listing page rest) t (omega (arith, (laid page k).few));
@@ -33,7 +33,7 @@ returns-in-Err c =
     let page = c.args.page.now in
     let rest = c.args.rest.now in
     let o = c.args.out.now in
-    let e = ap refused_text c.number.ensures ∙ refused_text_lem page rest c.check_input-answer.ensures _ c.in-Err.is in
+    let e = ap refused_text c.from.ensures ∙ refused_text_lem page rest c.check_input.ensures _ c.in-Err.is in
     let t = wrote_as o 0 e c.put_refused.ensures.value in
     record {
       value = (t.0 ∙ zero-add _, t.1);

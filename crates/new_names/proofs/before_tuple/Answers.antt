@@ -7,6 +7,7 @@ use lib.Signed.{non_neg}
 use mir.Syntax.{w32}
 use mir.ValLaws.{to_z-of_z}
 use Rattle.slots.specs.Tuples.{row_at}
+use Rattle.new_names.specs.NewNames.{answer_name}
 use Rattle.new_names.proofs.Rules.{half, lower, no_position, no_offset}
 use Rattle.new_names.proofs.PartsOfNames.{given}
 use borrow.Author.Rules.{rules}
@@ -20,18 +21,13 @@ returns-then-y-ge2 c =
     given s c.one_more.result g (c.one_more.ensures s l)
 
 pub returns-then-y-ne1 : goal.returns-then-y-ne1
-returns-then-y-ne1 c =
-    λ s l.
-    let g = no_position c.args.author (row_at s c.args.a) c.args.y c.if-y-ge2.false c.if-y-ne1.true in
-    given s c.refused.result g (c.refused.ensures s)
+returns-then-y-ne1 c = λ s l. sym (ap answer_name (no_position c.args.author (row_at s c.args.a) c.args.y c.if-y-ge2.false c.if-y-ne1.true))
 
 pub returns-then-not-not_below_zero : goal.returns-then-not-not_below_zero
 returns-then-not-not_below_zero c =
     let o = to_z-of_z w32 c.args.y.offset (search rules) in
     let b : non_neg c.args.y.offset ≡ false = ap non_neg (sym o) ∙ sym c.not_below_zero.ensures ∙ c.if-not-not_below_zero.true in
-    λ p l.
-    let g = no_offset c.args.author (row_at p c.args.a) c.args.y c.if-y-ne1.false b in
-    given p c.refused-then-not-not_below_zero.result g (c.refused-then-not-not_below_zero.ensures p)
+    λ s l. sym (ap answer_name (no_offset c.args.author (row_at s c.args.a) c.args.y c.if-y-ne1.false b))
 
 pub one_lower-requires : goal.one_lower-requires
 one_lower-requires c =

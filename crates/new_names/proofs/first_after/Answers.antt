@@ -13,4 +13,4 @@ pub returns : goal.returns
 returns c =
     let b = c.args.b in
     let e = after_first c.args.page.now b.at b.count c.if-b-lt1.false in
-    (c.wide.ensures.0 ∙ c.read_u16.ensures ∙ e, c.wide.ensures.1)
+    (c.from.ensures ∙ c.read_u16.ensures ∙ e, omega arith)

@@ -13,4 +13,4 @@ pub returns : goal.returns
 returns c =
     let a = c.args.a in
     let e = before_first c.args.page.now a.at a.count c.if-a-lt1.false in
-    (c.wide.ensures.0 ∙ c.read_u16.ensures ∙ e, c.wide.ensures.1)
+    (c.from.ensures ∙ c.read_u16.ensures ∙ e, omega arith)

@@ -1,15 +1,11 @@
 -- `new_names::made` meets its contract. Assumes nothing.
-use Prim.Native.Nat.{◌-◌, ◌≤◌}
 use mathlib.Core.Path.{◌≡◌}
-use lib.ListN.{length, take}
+use lib.ListN.{take}
 use Rattle.names.specs.declared.Name.{Name}
-use Rattle.names.specs.Names.{limit, value_of}
+use Rattle.names.specs.Names.{value_of}
 use Rattle.new_names.specs.FoundParts.{parts_of}
 use Rattle.new_names.proofs.made.Given as goal
 
 -- the name of the first k
 abbrev pub invariant-loop-k : goal.invariant-loop-k
-invariant-loop-k l = (length l.tuples ≡ limit) × (l.k ≤ l.n) × (◌≡◌ {A = Name} (record { depth = l.k; tuples = l.tuples }) (value_of (take l.k (parts_of l.page l.p))))
-
-abbrev pub decreases-loop-k : goal.decreases-loop-k
-decreases-loop-k l = l.n - l.k
+invariant-loop-k l = ◌≡◌ {A = Name} (record { depth = l.k; tuples = l.tuples }) (value_of (take l.k (parts_of l.page l.p)))

@@ -5,7 +5,7 @@ use Rattle.new_names.proofs.PartsOfNames.{deep, grown}
 use Rattle.new_names.proofs.one_more.Goals as goal
 
 pub returns-then-depth-gt-LIMIT : goal.returns-then-depth-gt-LIMIT
-returns-then-depth-gt-LIMIT c = λ s l. deep s c.args.a c.refused.result (c.args.t ∷ []) (omega arith) (c.refused.ensures s)
+returns-then-depth-gt-LIMIT c = λ s l. deep s c.args.a (c.args.t ∷ []) (omega arith)
 
 pub returns : goal.returns
 returns c = λ s l. grown s c.args.a c.args.t c.args.t 1 (omega arith) (omega arith) l

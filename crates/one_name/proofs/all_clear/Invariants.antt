@@ -1,15 +1,10 @@
 -- `one_name::all_clear` meets its contract. Assumes nothing.
 use mathlib.Core.Path.{◌≡◌}
-use Prim.Native.Nat.{◌-◌, ◌/◌}
-use lib.ListN.{length, drop}
+use lib.ListN.{drop}
 use Rattle.std.specs.List.{list_all}
-use Rattle.slots.specs.Slots.{slot_size}
 use Rattle.pages.specs.Pages.{names_of}
 use Rattle.one_name.specs.Stems.{clear_from}
 use Rattle.one_name.proofs.all_clear.Given as goal
 
 abbrev pub invariant-loop-k : goal.invariant-loop-k
-invariant-loop-k l = (l.n ≡ length l.page / slot_size) × (list_all (clear_from l.author (names_of l.log) l.from) (drop l.k (names_of l.page)) ≡ list_all (clear_from l.author (names_of l.log) l.from) (names_of l.page))
-
-abbrev pub decreases-loop-k : goal.decreases-loop-k
-decreases-loop-k l = l.n - l.k
+invariant-loop-k l = list_all (clear_from l.author (names_of l.log) l.from) (drop l.k (names_of l.page)) ≡ list_all (clear_from l.author (names_of l.log) l.from) (names_of l.page)

@@ -2,6 +2,7 @@
 use mathlib.Core.Path.{◌≡◌, ◌∙◌, ap}
 use Prim.Native.Nat.{ℕ, ◌≤◌}
 use native.Mathlib.Omega.{arith}
+use borrow.Author.Tests.{lt-ltb}
 use lib.IntN.{nat_abs}
 use lib.ListN.{length, drop}
 use Rattle.slots.specs.Tuples.{row_at}
@@ -16,7 +17,7 @@ pub returns-then-c-lt2 : goal.returns-then-c-lt2
 returns-then-c-lt2 c =
     let a = c.args in
     let deep = length_tuples_at a.s.now a.c.at a.c.count in
-    alone_short a.author (names_of a.log.now) (row_at a.s.now a.c) (omega arith)
+    lt-ltb a.c.count 2 c.if-c-lt2.true ∙ alone_short a.author (names_of a.log.now) (row_at a.s.now a.c) (omega arith)
 
 pub index_of-requires : goal.index_of-requires
 index_of-requires c =
@@ -32,8 +33,8 @@ is_within-requires c =
     let two : 2 ≤ length x = omega (arith, length_tuples_at a.s.now a.c.at a.c.count, c.if-c-lt2.false) in
     (next_logged a.log.now a.author x c.requires.log_value.0 c.requires.n.0 c.requires.n.1 k c.index_of.ensures two, c.without.ensures.0)
 
-pub returns : goal.returns
-returns c =
+pub returns-else-c-lt2 : goal.returns-else-c-lt2
+returns-else-c-lt2 c =
     let a = c.args in
     let l = names_of a.log.now in
     let x = row_at a.s.now a.c in

@@ -11,9 +11,6 @@ use Rattle.one_name.proofs.TestedSides.{last_is, under_first, from_first, over_l
 use Rattle.one_name.proofs.Shapes.{shape_low, shape_high, shape_within}
 use Rattle.one_name.proofs.back_of.Goals as goal
 
-pub under-requires : goal.under-requires
-under-requires c = (c.requires.1, c.strip_below.ensures.0)
-
 pub returns-then-is_below : goal.returns-then-is_below
 returns-then-is_below c =
     let a = c.args in
@@ -40,9 +37,6 @@ pub strip_above-requires : goal.strip_above-requires
 strip_above-requires c =
     let l = logged c.args.log.now c.requires.0 in
     (omega (arith, l.some, l.few, l.count), c.requires.1)
-
-pub over-requires : goal.over-requires
-over-requires c = (c.requires.1, c.strip_above.ensures.0)
 
 pub returns-then-is_above : goal.returns-then-is_above
 returns-then-is_above c =

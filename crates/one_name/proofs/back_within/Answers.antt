@@ -39,9 +39,9 @@ between-requires c =
     let next = next_logged a.log.now a.author x c.requires.log_value.0 c.requires.n.0 c.requires.n.1 known.result known.ensures two in
     (next, c.requires.log_value.1, omega (arith, c.if-c-lt2.false))
 
-pub returns : goal.returns
+pub returns-else-c-lt2 : goal.returns-else-c-lt2
 unfolding within_shape
-returns c =
+returns-else-c-lt2 c =
     let a = c.args in
     let x = row_at a.s.now a.c in
     let log = names_of a.log.now in

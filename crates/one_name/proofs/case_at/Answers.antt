@@ -3,36 +3,32 @@ use mathlib.Core.Path.{◌≡◌, ◌∙◌, sym, ap}
 use Prim.Native.Nat.{ℕ, suc, ◌-◌, ◌<◌, ◌≤◌}
 use native.Mathlib.Omega.{arith}
 use lib.ListN.{length}
-use Rattle.names.specs.declared.Author.{Author}
-use Rattle.names.specs.Ordering.{Row}
 use Rattle.slots.specs.Tuples.{row_at}
 use Rattle.pages.specs.declared.Place.TheVariants.{Gap}
 use Rattle.pages.specs.Pages.{names_of}
 use Rattle.pages.specs.Places.{place_of}
-use Rattle.name_renames.specs.declared.Case.{Case}
 use Rattle.name_renames.specs.declared.Case.TheVariants.{KeepBelow, PutBelow, PutAbove, KeepAbove}
 use Rattle.name_renames.specs.Renaming.{first_position, N, if_below}
 use Rattle.one_name.proofs.CheckedLog.{logged}
 use Rattle.one_name.proofs.PlaceInLog.{case_here, case_first, case_gap, case_last}
 use Rattle.one_name.proofs.case_at.Goals as goal
 
--- the comparison was made with the p that the code has read
-above_as : {r : Case} {p q : ℕ} (author : Author) (x : Row) (k : ℕ) → r ≡ if_below x (N p author k) (PutAbove k) KeepAbove → p ≡ q →
-    r ≡ if_below x (N q author k) (PutAbove k) KeepAbove
-above_as author x k e f = e ∙ ap (λ (p : ℕ). if_below x (N p author k) (PutAbove k) KeepAbove) f
+pub returns-in-Here : goal.returns-in-Here
+returns-in-Here c =
+    let a = c.args in
+    let s = a.log.now in
+    let o = (logged s c.requires.0).rising in
+    sym (case_here (first_position (names_of s)) a.author (row_at a.s.now a.x) (names_of s) o c.in-Here.k (sym c.requires.2 ∙ c.in-Here.is))
 
-pub returns-then-k-lt1 : goal.returns-then-k-lt1
-returns-then-k-lt1 c =
+pub returns-then-k-eq0 : goal.returns-then-k-eq0
+returns-then-k-eq0 c =
     let a = c.args in
     let s = a.log.now in
     let x = row_at a.s.now a.x in
     let l = logged s c.requires.0 in
-    let p = first_position (names_of s) in
-    let k = c.in-Gap.k in
-    let z : k ≡ 0 = omega arith in
-    let e : place_of x (names_of s) ≡ Gap 0 = sym c.requires.2 ∙ c.in-Gap.is ∙ ap Gap z in
+    let e : place_of x (names_of s) ≡ Gap 0 = sym c.requires.2 ∙ c.in-Gap.is ∙ ap Gap c.if-k-eq0.true in
     let same-p = ap (λ (q : ℕ). if_below x (N q a.author 0) KeepBelow PutBelow) c.first_position-p.ensures in
-    c.case_below.ensures ∙ same-p ∙ sym (case_first p a.author x (names_of s) l.rising l.some e)
+    c.case_below.ensures ∙ same-p ∙ sym (case_first (first_position (names_of s)) a.author x (names_of s) l.rising l.some e)
 
 pub returns-then-k-log : goal.returns-then-k-log
 returns-then-k-log c =
@@ -41,8 +37,8 @@ returns-then-k-log c =
     let x = row_at a.s.now a.x in
     let l = logged s c.requires.0 in
     let k = c.in-Gap.k in
-    let z : k ≡ suc (k - 1) = omega arith in
-    let h : suc (k - 1) < length (names_of s) = omega (arith, l.count) in
+    let z : k ≡ suc (k - 1) = omega (arith, c.if-k-eq0.false) in
+    let h : suc (k - 1) < length (names_of s) = omega (arith, l.count, c.if-k-log.true) in
     let e : place_of x (names_of s) ≡ Gap (suc (k - 1)) = sym c.requires.2 ∙ c.in-Gap.is ∙ ap Gap z in
     sym (case_gap (first_position (names_of s)) a.author x (names_of s) l.rising (k - 1) h e)
 
@@ -52,19 +48,11 @@ case_above-requires c =
     let s = a.log.now in
     let l = logged s c.requires.0 in
     let k = c.in-Gap.k in
-    let z : k ≡ suc (k - 1) = omega arith in
-    let h : length (names_of s) ≤ suc (k - 1) = omega (arith, l.count) in
+    let z : k ≡ suc (k - 1) = omega (arith, c.if-k-eq0.false) in
+    let h : length (names_of s) ≤ suc (k - 1) = omega (arith, l.count, c.if-k-log.false) in
     let e : place_of (row_at a.s.now a.x) (names_of s) ≡ Gap (suc (k - 1)) = sym c.requires.2 ∙ c.in-Gap.is ∙ ap Gap z in
     let n = (case_last (first_position (names_of s)) a.author (row_at a.s.now a.x) (names_of s) l.rising (k - 1) h e).0 in
-    omega (arith, l.few)
-
-pub returns-in-Here : goal.returns-in-Here
-returns-in-Here c =
-    let a = c.args in
-    let s = a.log.now in
-    let o = (logged s c.requires.0).rising in
-    let k = c.in-Here.k in
-    sym (case_here (first_position (names_of s)) a.author (row_at a.s.now a.x) (names_of s) o k (sym c.requires.2 ∙ c.in-Here.is))
+    (omega (arith, l.few), c.requires.1)
 
 pub returns-else-k-log : goal.returns-else-k-log
 returns-else-k-log c =
@@ -72,10 +60,9 @@ returns-else-k-log c =
     let s = a.log.now in
     let x = row_at a.s.now a.x in
     let l = logged s c.requires.0 in
-    let p = first_position (names_of s) in
     let k = c.in-Gap.k in
-    let z : k ≡ suc (k - 1) = omega arith in
-    let h : length (names_of s) ≤ suc (k - 1) = omega (arith, l.count) in
+    let z : k ≡ suc (k - 1) = omega (arith, c.if-k-eq0.false) in
+    let h : length (names_of s) ≤ suc (k - 1) = omega (arith, l.count, c.if-k-log.false) in
     let e : place_of x (names_of s) ≡ Gap (suc (k - 1)) = sym c.requires.2 ∙ c.in-Gap.is ∙ ap Gap z in
-    above_as a.author x (k - 1) c.case_above.ensures c.first_position-p.ensures
-    ∙ sym (case_last p a.author x (names_of s) l.rising (k - 1) h e).1
+    let same-p = ap (λ (p : ℕ). if_below x (N p a.author (k - 1)) (PutAbove (k - 1)) KeepAbove) c.first_position-p.ensures in
+    c.case_above.ensures ∙ same-p ∙ sym (case_last (first_position (names_of s)) a.author x (names_of s) l.rising (k - 1) h e).1

@@ -1,4 +1,4 @@
-use mathlib.Core.Path.{◌≡◌, refl, ◌∙◌, sym, ap}
+use mathlib.Core.Path.{◌≡◌, ◌∙◌, sym, ap}
 use mathlib.Core.Bool.{Bool, not, ◌&&◌}
 use Prim.Native.Nat.{ℕ, ◌+◌, ◌*◌, ◌≤◌, ◌<◌}
 use native.Mathlib.Omega.{arith}
@@ -11,42 +11,35 @@ use Rattle.numbers.proofs.Every.{every_at}
 use Rattle.slots.specs.Tuples.{tuple_at, tuples_at, row_at, tuple_size}
 use Rattle.slots.proofs.TuplesInBytes.{length_tuples_at, get_or_tuples_at}
 use Rattle.one_name.specs.Markers.{unmarked}
-use Rattle.one_name.proofs.Unmarked.{last_free}
+use Rattle.one_name.proofs.Unmarked.{name_some, last_free}
 use Rattle.one_name.proofs.is_unmarked.Goals as goal
 
 -- what the test of tuple i says of the tuples from there on
-turn : (s : Bytes) (p n i : ℕ) {r : Bool} → i < n → r ≡ marker (tuple_at s (p + tuple_size * i)) →
-    not r && unmarked (drop (i + 1) (tuples_at s p n)) ≡ unmarked (drop i (tuples_at s p n))
-turn s p n i h e =
+turn : (s : Bytes) (p n i : ℕ) {r b : Bool} → i < n → r ≡ marker (tuple_at s (p + tuple_size * i)) → r ≡ b →
+    not b && unmarked (drop (i + 1) (tuples_at s p n)) ≡ unmarked (drop i (tuples_at s p n))
+turn s p n i h e f =
     let l : i < length (tuples_at s p n) = omega (arith, length_tuples_at s p n) in
-    every_at (λ (t : Tuple). not (marker t)) (tuples_at s p n) i m l (ap not e ∙ sym (ap (λ (t : Tuple). not (marker t)) (get_or_tuples_at s p n i h)))
+    every_at (λ (t : Tuple). not (marker t)) (tuples_at s p n) i m l (ap not (sym f ∙ e) ∙ sym (ap (λ (t : Tuple). not (marker t)) (get_or_tuples_at s p n i h)))
 
-pub loop-i-init : goal.loop-i-init
-loop-i-init c = (c.requires.2, c.requires.0.0, refl)
-
-pub loop-i-preserved : goal.loop-i-preserved
-loop-i-preserved c =
-    let x = c.args.x in
-    let s = c.args.s.now in
-    let i = c.loop-i.i in
-    let h : i < x.count = omega (arith, c.if-n-i.false) in
-    let left = unmarked (drop (i + 1) (tuples_at s x.at x.count)) in
-    let next = ap (λ (b : Bool). not b && left) (sym c.if-marker_at.false) ∙ turn s x.at x.count i h c.marker_at.ensures in
-    (omega (arith, c.if-n-i.false, c.requires.0.1), c.loop-i.invariant.1, next ∙ c.loop-i.invariant.2)
-
-pub returns-then-n-i : goal.returns-then-n-i
-returns-then-n-i c =
-    let x = c.args.x in
-    let s = c.args.s.now in
-    let last : length (row_at s x) ≤ c.loop-i.i + 1 = omega (arith, c.if-n-i.true, length_tuples_at s x.at x.count) in
-    last_free c.loop-i.i (name_valid (row_at s x) c.requires.1) last ∙ c.loop-i.invariant.2
+pub overflow_sub-i-end : goal.overflow_sub-i-end
+overflow_sub-i-end c =
+    let x = row_at c.args.s.now c.args.x in
+    omega (arith, name_some (name_valid x c.requires.1), length_tuples_at c.args.s.now c.args.x.at c.args.x.count)
 
 pub returns-then-marker_at : goal.returns-then-marker_at
 returns-then-marker_at c =
     let x = c.args.x in
-    let s = c.args.s.now in
-    let i = c.loop-i.i in
-    let h : i < x.count = omega (arith, c.if-n-i.false) in
-    let left = unmarked (drop (i + 1) (tuples_at s x.at x.count)) in
-    let next = ap (λ (b : Bool). not b && left) (sym c.if-marker_at.true) ∙ turn s x.at x.count i h c.marker_at.ensures in
-    next ∙ c.loop-i.invariant.2
+    let h : c.loop-i.i < x.count = omega (arith, c.loop-i-test.true) in
+    turn c.args.s.now x.at x.count c.loop-i.i h c.marker_at.ensures c.if-marker_at.true ∙ c.loop-i.invariant
+
+pub loop-i-preserved : goal.loop-i-preserved
+loop-i-preserved c =
+    let x = c.args.x in
+    let h : c.loop-i.i < x.count = omega (arith, c.loop-i-test.true) in
+    turn c.args.s.now x.at x.count c.loop-i.i h c.marker_at.ensures c.if-marker_at.false ∙ c.loop-i.invariant
+
+pub returns : goal.returns
+returns c =
+    let x = c.args.x in
+    let last : length (row_at c.args.s.now x) ≤ c.loop-i.i + 1 = omega (arith, c.loop-i-test.false, length_tuples_at c.args.s.now x.at x.count) in
+    last_free c.loop-i.i (name_valid (row_at c.args.s.now x) c.requires.1) last ∙ c.loop-i.invariant

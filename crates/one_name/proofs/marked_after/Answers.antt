@@ -10,17 +10,16 @@ use Rattle.slots.specs.Tuples.{row_at}
 use Rattle.slots.proofs.TuplesInBytes.{length_tuples_at, get_or_tuples_at}
 use Rattle.one_name.proofs.marked_after.Goals as goal
 
-pub returns-then-x-n : goal.returns-then-x-n
-returns-then-x-n c =
+pub returns-then-n-x : goal.returns-then-n-x
+returns-then-n-x c =
     let a = c.args in
     let x = row_at a.s.now a.x in
-    let over : length x ≤ a.n = omega (arith, length_tuples_at a.s.now a.x.at a.x.count) in
-    sym (ap (λ (b : Bool). b && marker (get_or x a.n m)) (le-ltb a.n (length x) over))
+    let within : a.n < length x = omega (arith, c.if-n-x.true, length_tuples_at a.s.now a.x.at a.x.count) in
+    c.marker_at.ensures ∙ sym (λ i. lt-ltb a.n (length x) within i && marker (get_or_tuples_at a.s.now a.x.at a.x.count a.n c.if-n-x.true i))
 
-pub returns : goal.returns
-returns c =
+pub returns-else-n-x : goal.returns-else-n-x
+returns-else-n-x c =
     let a = c.args in
     let x = row_at a.s.now a.x in
-    let within : a.n < a.x.count = omega (arith, c.if-x-n.false) in
-    let under : a.n < length x = omega (arith, length_tuples_at a.s.now a.x.at a.x.count) in
-    c.marker_at.ensures ∙ sym (λ i. lt-ltb a.n (length x) under i && marker (get_or_tuples_at a.s.now a.x.at a.x.count a.n within i))
+    let over : length x ≤ a.n = omega (arith, c.if-n-x.false, length_tuples_at a.s.now a.x.at a.x.count) in
+    le-ltb a.n a.x.count c.if-n-x.false ∙ sym (ap (λ (b : Bool). b && marker (get_or x a.n m)) (le-ltb a.n (length x) over))

@@ -10,4 +10,4 @@ pub returns : goal.returns
 returns c =
     let x = c.args in
     let same = c.stand-at.ensures.1 in
-    gives c.changed.result (renamed x.author (names_of x.log.now) (row_of x.x) (sym same) c.walk-w.ensures.1 c.change_of.ensures) c.changed.ensures
+    gives c.changed.result (renamed x.author (names_of x.log.now) (row_of x.x) (sym same) c.walk-walked.ensures.1 c.change_of.ensures) c.changed.ensures

@@ -15,7 +15,7 @@ write_row-requires c =
 pub returns : goal.returns
 returns c =
     let x = c.args.x in
-    let n = c.tuples_in-count.ensures in
+    let n = c.tuples_in.ensures in
     let words = held_words x.tuples _ c.well_formed.0.1.1.1.0.1.1 in
     let long = c.write_row.auto.out in
     ((omega (arith, n.1, long), n.1), (λ i. tuples_at (c.write_row.ensures i) 0 (n.0 i)) ∙ held_back x _ words)

@@ -12,15 +12,14 @@ place_from-place-requires c = ((logged c.args.log.now c.requires.0).risen, c.req
 pub returns-in-Here : goal.returns-in-Here
 returns-in-Here c =
     let x = row_at c.args.s.now c.args.x in
-    let l = names_of c.args.log.now in
-    let k = ap index (c.in-Here.ensures) ∙ index_is x l in
+    let k = ap index c.in-Here.ensures ∙ index_is x (names_of c.args.log.now) in
     let case = c.case_at-case in
     (k, case.ensures, case_index c.args.log.now c.args.author x c.requires.0 case.result case.ensures)
 
-pub returns-in-Gap : goal.returns-in-Gap
-returns-in-Gap c =
+-- in `Gap`
+pub returns-in-Here-2 : goal.returns-in-Here-2
+returns-in-Here-2 c =
     let x = row_at c.args.s.now c.args.x in
-    let l = names_of c.args.log.now in
-    let k = ap index (c.in-Gap.ensures) ∙ index_is x l in
+    let k = ap index c.in-Here.ensures ∙ index_is x (names_of c.args.log.now) in
     let case = c.case_at-case in
     (k, case.ensures, case_index c.args.log.now c.args.author x c.requires.0 case.result case.ensures)

@@ -1,48 +1,44 @@
 -- `page_renames::check` meets its contract. Assumes nothing.
 use mathlib.Core.Path.{refl, ◌∙◌, sym}
+use mathlib.Core.List.{[], ◌∷◌}
 use borrow.Author.Tests.{le-leb, lt-leb}
+use lib.Dec.{leb}
+use Rattle.std.proofs.lemmas.Result.{err_from_is_err_and}
+use Rattle.answers.specs.declared.Refusal.TheVariants.{BadLog, NoAuthor}
+use Rattle.answers.specs.Answers.{◌else◌}
 use Rattle.answers.specs.Laws.{here, later}
-use Rattle.slots.proofs.LookedAt.{tells_broken, tells_falling, tells_rising}
-use Rattle.pages.specs.Pages.{keeps_layout, rises}
+use Rattle.answers.proofs.Checked.{stops, clears}
+use Rattle.pages.specs.Pages.{is_log}
 use Rattle.page_renames.specs.Renames.{opening_tests}
-use Rattle.page_renames.proofs.FirstRefusal.{stops, clears}
+use Rattle.page_renames.proofs.Opening.{page_fails, page_passes, log_fails, log_passes}
 use Rattle.page_renames.proofs.check.Goals as goal
 
-pub returns-in-Broken : goal.returns-in-Broken
-returns-in-Broken c =
+pub returns-in_err-check_page : goal.returns-in_err-check_page
+returns-in_err-check_page c =
     let a = c.args in
-    let tests = opening_tests a.page.now a.log.now a.author in
-    stops tests (here (tells_broken (keeps_layout a.page.now) (rises a.page.now) (c.in-Broken.ensures)) refl)
+    let told = err_from_is_err_and c.from_residual.result c.from_residual.ensures.1 in
+    let more = is_log a.log.now else BadLog ∷ leb 1 a.author.node else NoAuthor ∷ [] in
+    let fails = page_fails a.page.now more (sym c.check_page.ensures ∙ c.in_err-check_page.was) in
+    rw (told.1, told.2) (stops (opening_tests a.page.now a.log.now a.author) fails)
 
-pub returns-in-NotRising : goal.returns-in-NotRising
-returns-in-NotRising c =
+pub returns-in_err-check_log : goal.returns-in_err-check_log
+returns-in_err-check_log c =
     let a = c.args in
-    let tests = opening_tests a.page.now a.log.now a.author in
-    let told = tells_falling (keeps_layout a.page.now) (rises a.page.now) (c.in-NotRising.ensures) in
-    stops tests (later told.0 (here told.1 refl))
-
-pub returns-then-not-log_ok : goal.returns-then-not-log_ok
-returns-then-not-log_ok c =
-    let a = c.args in
-    let tests = opening_tests a.page.now a.log.now a.author in
-    let told = tells_rising (keeps_layout a.page.now) (rises a.page.now) (c.in-Rising.ensures) in
-    let test3 = sym c.log_ok.ensures ∙ c.if-not-log_ok.true in
-    stops tests (later told.0 (later told.1 (here test3 refl)))
+    let told = err_from_is_err_and c.from_residual-in_err-check_log.result c.from_residual-in_err-check_log.ensures.1 in
+    let page = page_passes a.page.now (sym c.check_page.ensures ∙ c.in_ok-check_page.was) in
+    let fails = log_fails a.log.now (leb 1 a.author.node else NoAuthor ∷ []) (sym c.check_log.ensures ∙ c.in_err-check_log.was) in
+    rw (told.1, told.2) (stops (opening_tests a.page.now a.log.now a.author) (later page.0 (later page.1.0 fails)))
 
 pub returns-then-author-lt1 : goal.returns-then-author-lt1
 returns-then-author-lt1 c =
     let a = c.args in
-    let tests = opening_tests a.page.now a.log.now a.author in
-    let told = tells_rising (keeps_layout a.page.now) (rises a.page.now) (c.in-Rising.ensures) in
-    let test3 = sym c.log_ok.ensures ∙ c.if-not-log_ok.false in
-    let test4 = lt-leb 1 a.author.node c.if-author-lt1.true in
-    stops tests (later told.0 (later told.1 (later test3 (here test4 refl))))
+    let page = page_passes a.page.now (sym c.check_page.ensures ∙ c.in_ok-check_page.was) in
+    let log = log_passes a.log.now (sym c.check_log.ensures ∙ c.in_ok-check_log.was) in
+    stops (opening_tests a.page.now a.log.now a.author) (later page.0 (later page.1.0 (later log (here (lt-leb 1 a.author.node c.if-author-lt1.true) refl))))
 
 pub returns : goal.returns
 returns c =
     let a = c.args in
-    let tests = opening_tests a.page.now a.log.now a.author in
-    let told = tells_rising (keeps_layout a.page.now) (rises a.page.now) (c.in-Rising.ensures) in
-    let test3 = sym c.log_ok.ensures ∙ c.if-not-log_ok.false in
-    let test4 = le-leb 1 a.author.node c.if-author-lt1.false in
-    clears tests (told.0, (told.1, (test3, (test4, tt))))
+    let page = page_passes a.page.now (sym c.check_page.ensures ∙ c.in_ok-check_page.was) in
+    let log = log_passes a.log.now (sym c.check_log.ensures ∙ c.in_ok-check_log.was) in
+    clears (opening_tests a.page.now a.log.now a.author) (page.0, (page.1.0, (log, (le-leb 1 a.author.node c.if-author-lt1.false, tt))))

@@ -7,13 +7,14 @@ use Rattle.pages.specs.Pages.{names_of}
 use Rattle.answers.specs.Laws.{here, later}
 use Rattle.one_name.proofs.CheckedLog.{logged}
 use Rattle.page_renames.specs.Renames.{rename_tests}
-use Rattle.page_renames.proofs.FirstRefusal.{asked, stops, clears}
+use Rattle.answers.proofs.Checked.{stops, clears}
+use Rattle.page_renames.proofs.Books.{all_asked}
 use Rattle.page_renames.proofs.check_rename.Goals as goal
 
 pub all_fresh-requires : goal.all_fresh-requires
 all_fresh-requires c =
     let a = c.args in
-    (asked a.page.now a.log.now a.author c.requires).layout
+    (all_asked a.page.now a.log.now a.author c.requires).layout
 
 -- a name of the page is not fresh
 pub returns-then-not-all_fresh : goal.returns-then-not-all_fresh
@@ -27,7 +28,7 @@ returns-then-not-all_fresh c =
 pub all_fresh-requires-2 : goal.all_fresh-requires-2
 all_fresh-requires-2 c =
     let a = c.args in
-    (logged a.log.now (asked a.page.now a.log.now a.author c.requires).logged).layout
+    (logged a.log.now (all_asked a.page.now a.log.now a.author c.requires).logged).layout
 
 -- a name of the log is not fresh
 pub returns-then-not-all_fresh-2 : goal.returns-then-not-all_fresh-2
@@ -41,7 +42,7 @@ returns-then-not-all_fresh-2 c =
 pub all_renamed_fit-requires : goal.all_renamed_fit-requires
 all_renamed_fit-requires c =
     let a = c.args in
-    let v = asked a.page.now a.log.now a.author c.requires in
+    let v = all_asked a.page.now a.log.now a.author c.requires in
     (v.layout, v.logged)
 
 pub returns-then-not-all_renamed_fit : goal.returns-then-not-all_renamed_fit

@@ -10,5 +10,5 @@ read_tuple-t-requires c = omega (arith, (kept c.args.slot.now c.requires).long)
 pub returns-then-t-author : goal.returns-then-t-author
 returns-then-t-author c = other_node c.args.author c.args.slot.now c.requires c.read_tuple-t.ensures c.if-t-author.true
 
-pub returns : goal.returns
-returns c = same_node c.args.author c.args.slot.now c.requires c.read_tuple-t.ensures c.if-t-author.false
+pub returns-else-t-author : goal.returns-else-t-author
+returns-else-t-author c = same_node c.args.author c.args.slot.now c.requires c.read_tuple-t.ensures c.if-t-author.false

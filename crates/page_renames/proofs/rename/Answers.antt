@@ -1,20 +1,21 @@
 -- `page_renames::rename` meets its contract. Assumes nothing.
-use mathlib.Core.Path.{◌∙◌, sym}
+use Rattle.std.proofs.lemmas.Result.{err_from_is_err_and}
+use Rattle.answers.proofs.Checked.{all_pass, turns_away}
 use Rattle.answers.proofs.Outcomes.{refused}
-use Rattle.page_renames.specs.Renames.{rename_outcome}
-use Rattle.page_renames.proofs.FirstRefusal.{turned_away}
+use Rattle.page_renames.specs.Renames.{opening_tests, rename_outcome}
 use Rattle.std.specs.Prelude.{◌≡◌, length}
 use Rattle.answers.specs.Answers.{leaves}
 use Rattle.page_renames.proofs.rename.Goals as goal
 
 pub rename_checked-requires : goal.rename_checked-requires
-rename_checked-requires c = sym c.check-checked.ensures ∙ c.in-Ok.is
+rename_checked-requires c = all_pass (opening_tests c.args.page.now c.args.log.now c.args.author) c.check.ensures c.in_ok-check.was
 
-pub returns-in-Err : goal.returns-in-Err
+pub returns-in_err-check : goal.returns-in_err-check
 unfolding rename_outcome
-returns-in-Err c =
+returns-in_err-check c =
     let a = c.args in
-    let told = sym c.check-checked.ensures ∙ c.in-Err.is in
+    let told = err_from_is_err_and c.from_residual.result c.from_residual.ensures.1 in
+    let stopped = turns_away (opening_tests a.page.now a.log.now a.author) c.check.ensures _ c.in_err-check.was in
     let both : (_ ≡ (rename_outcome c.args.page.now c.args.log.now c.args.author (length c.args.out.now)).answer) × (_ ≡ leaves (rename_outcome c.args.page.now c.args.log.now c.args.author (length c.args.out.now)) c.args.out.now) =
-    refused _ _ _ (turned_away a.page.now a.log.now a.author _ _ told)
-    in record { value = both.0; out_after = both.1 }
+    refused _ _ _ stopped
+    in record { value = rw (told.1, told.2) both.0; out_after = both.1 }

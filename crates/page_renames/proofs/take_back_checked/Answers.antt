@@ -1,12 +1,13 @@
 -- `page_renames::take_back_checked` meets its contract. Assumes nothing.
 use mathlib.Core.Path.{◌∙◌, sym}
 use native.Mathlib.Omega.{arith}
+use Rattle.std.proofs.lemmas.Result.{err_from_is_err_and}
 use lib.ListN.{length}
 use Rattle.pages.specs.Pages.{names_of}
 use Rattle.answers.proofs.Outcomes.{refused, accepted}
 use Rattle.name_renames.specs.Renaming.{take_back}
 use Rattle.page_renames.specs.Renames.{take_back_tests, take_back_outcome}
-use Rattle.page_renames.proofs.FirstRefusal.{asked}
+use Rattle.page_renames.proofs.Books.{all_asked}
 use Rattle.page_renames.proofs.LastRefusal.{own_refused, all_fit_lem, short, done, back_fit}
 use Rattle.std.specs.Prelude.{◌≡◌}
 use Rattle.answers.specs.Answers.{leaves}
@@ -15,10 +16,10 @@ use Rattle.page_renames.proofs.take_back_checked.Goals as goal
 pub all_alone-alone-requires : goal.all_alone-alone-requires
 all_alone-alone-requires c =
     let a = c.args in
-    (asked a.page.now a.log.now a.author c.requires).logged
+    (all_asked a.page.now a.log.now a.author c.requires).logged
 
-pub check_names-checked-requires : goal.check_names-checked-requires
-check_names-checked-requires c =
+pub check_names-requires : goal.check_names-requires
+check_names-requires c =
     record {
       author_value = c.requires;
       page_value = λ e. sym c.all_alone-alone.ensures ∙ e;
@@ -36,7 +37,7 @@ returns-then-out-page c =
     let room = length a.out.now in
     let fit = back_fit s g a.author in
     let both : (_ ≡ (take_back_outcome c.args.page.now c.args.log.now c.args.author (length c.args.out.now)).answer) × (_ ≡ leaves (take_back_outcome c.args.page.now c.args.log.now c.args.author (length c.args.out.now)) c.args.out.now) =
-    refused _ _ _ (short s g a.author own f fit room c.requires c.check_names-checked.ensures c.in-Ok.is (omega arith))
+    refused _ _ _ (short s g a.author own f fit room c.requires c.check_names.ensures c.in_ok-check_names.was (omega arith))
     in record { value = both.0; out_after = both.1 }
 
 pub write_back-requires : goal.write_back-requires
@@ -48,8 +49,8 @@ write_back-requires c =
     let f = take_back a.author (names_of g) in
     let room = length a.out.now in
     let fit = back_fit s g a.author in
-    let v = asked s g a.author c.requires in
-    let fits = all_fit_lem s g a.author own f fit room c.requires c.check_names-checked.ensures c.in-Ok.is in
+    let v = all_asked s g a.author c.requires in
+    let fits = all_fit_lem s g a.author own f fit room c.requires c.check_names.ensures c.in_ok-check_names.was in
     record {
       page_value = (v.layout, v.logged, omega arith);
       page_value_2 = fits;
@@ -57,9 +58,9 @@ write_back-requires c =
     }
 
 -- the call's own refusals
-pub returns-in-Err : goal.returns-in-Err
+pub returns-in_err-check_names : goal.returns-in_err-check_names
 unfolding take_back_outcome
-returns-in-Err c =
+returns-in_err-check_names c =
     let a = c.args in
     let s = a.page.now in
     let g = a.log.now in
@@ -67,13 +68,14 @@ returns-in-Err c =
     let f = take_back a.author (names_of g) in
     let room = length a.out.now in
     let fit = back_fit s g a.author in
+    let told = err_from_is_err_and c.from_residual.result c.from_residual.ensures.1 in
     let both : (_ ≡ (take_back_outcome c.args.page.now c.args.log.now c.args.author (length c.args.out.now)).answer) × (_ ≡ leaves (take_back_outcome c.args.page.now c.args.log.now c.args.author (length c.args.out.now)) c.args.out.now) =
-    refused _ _ _ (own_refused s g a.author own f fit room c.requires c.check_names-checked.ensures _ c.in-Err.is)
-    in record { value = both.0; out_after = both.1 }
+    refused _ _ _ (own_refused s g a.author own f fit room c.requires c.check_names.ensures _ c.in_err-check_names.was)
+    in record { value = rw (told.1, told.2) both.0; out_after = both.1 }
 
-pub returns-else-out-page : goal.returns-else-out-page
+pub returns : goal.returns
 unfolding take_back_outcome
-returns-else-out-page c =
+returns c =
     let a = c.args in
     let s = a.page.now in
     let g = a.log.now in
@@ -81,7 +83,7 @@ returns-else-out-page c =
     let f = take_back a.author (names_of g) in
     let room = length a.out.now in
     let fit = back_fit s g a.author in
-    let whole = done s g a.author own f fit room c.requires c.check_names-checked.ensures c.in-Ok.is (omega arith) in
+    let whole = done s g a.author own f fit room c.requires c.check_names.ensures c.in_ok-check_names.was (omega arith) in
     let both : (_ ≡ (take_back_outcome c.args.page.now c.args.log.now c.args.author (length c.args.out.now)).answer) × (_ ≡ leaves (take_back_outcome c.args.page.now c.args.log.now c.args.author (length c.args.out.now)) c.args.out.now) =
     accepted _ _ _ _ _ whole c.write_back.ensures
     in record { value = both.0; out_after = both.1 }

@@ -1,7 +1,7 @@
 -- `page_renames::write_renamed` meets its contract. Assumes nothing.
 use mathlib.Core.Path.{◌≡◌}
 use mathlib.Core.List.{[]}
-use Prim.Native.Nat.{◌-◌, ◌/◌, ◌<◌, ◌≤◌}
+use Prim.Native.Nat.{◌/◌, ◌<◌, ◌≤◌}
 use lib.ListN.{length, get_or}
 use Rattle.slots.specs.Slots.{slot_size}
 use Rattle.pages.specs.Pages.{names_of}
@@ -12,11 +12,5 @@ use Rattle.page_renames.proofs.write_renamed.Given as goal
 
 abbrev pub invariant-loop-i : goal.invariant-loop-i
 invariant-loop-i l =
-    (l.n ≡ length l.page / slot_size)
-    × (l.i ≤ l.n)
-    × (length l.out ≡ length l.initial.out)
-    × (standing (rename l.author (names_of l.log)) l.page l.out l.i ≡ standing (rename l.author (names_of l.log)) l.page l.initial.out 0)
-    × (l.i < l.n → l.j ≤ below (get_or (names_of l.page) l.i []) (names_of l.log))
-
-abbrev pub decreases-loop-i : goal.decreases-loop-i
-decreases-loop-i l = l.n - l.i
+    (standing (rename l.author (names_of l.log)) l.page l.out l.i ≡ standing (rename l.author (names_of l.log)) l.page l.initial.out 0)
+    × (l.i < length l.page / slot_size → l.below ≤ below (get_or (names_of l.page) l.i []) (names_of l.log))

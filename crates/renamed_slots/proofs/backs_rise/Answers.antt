@@ -1,7 +1,9 @@
 use mathlib.Core.Path.{◌≡◌, ◌∙◌, sym, ap}
 use mathlib.Core.Bool.{true, false}
-use Prim.Native.Nat.{ℕ, ◌+◌, ◌≤◌, ◌<◌}
-use native.Mathlib.Decide.{dec_le}
+use borrow.Author.Tests.{lt-ltb, le-ltb}
+use lib.Dec.{ltb}
+use Prim.Native.Nat.{ℕ, min, ◌+◌, ◌≤◌, ◌<◌}
+use native.Mathlib.Decide.{dec_le, dec_lt}
 use native.Mathlib.Omega.{arith}
 use lib.ListN.{length, get_or}
 use lib.Seq.{take_all}
@@ -10,6 +12,7 @@ use Rattle.names.specs.declared.Tuple.{Tuple}
 use Rattle.names.specs.Ordering.{Row, compare_tuples, compare_rows}
 use Rattle.std.specs.Ordering.{ordering_then, is_lt}
 use Rattle.names.specs.Names.{m}
+use Rattle.names.proofs.DerivedOrder.{tuples_ordered}
 use Rattle.names.proofs.CompareTuples.{left, left_same, left_less, left_more, left_at}
 use Rattle.renamed_slots.proofs.backs_rise.Goals as goal
 use Rattle.renamed_slots.proofs.backs_rise.Invariants.{back_of}
@@ -33,6 +36,13 @@ module _ (a b : Row) (n k i : ℕ) (e : n ≡ length a) (f : k ≡ length b) whe
   prefix : n ≤ i → i < k → true ≡ is_lt (left a b n k i)
   prefix g h = ap is_lt (left_less a b n k i m long long' g h)
 
+  -- at the end of the shorter
+  ends : i ≡ min n k → ltb n k ≡ is_lt (left a b n k i)
+  ends h = elim (dec_lt n k) [
+    | yes g ↦ lt-ltb n k g ∙ prefix (omega (arith, h)) (omega (arith, h))
+    | no g ↦ le-ltb n k (omega arith) ∙ none_left (omega (arith, h))
+  ]
+
   -- the tuples at i compare as o
   turn : {s t : Tuple} {r o : Ordering} → s ≡ get_or a i m → t ≡ get_or b i m → r ≡ compare_tuples s t → r ≡ o → i < n → i < k →
       is_lt (ordering_then o (left a b n k (i + 1))) ≡ is_lt (left a b n k i)
@@ -43,39 +53,25 @@ loop-i-init c =
     let x = c.args in
     let a = back_of x.first.now x.log.now x.a in
     let b = back_of x.second.now x.log.now x.b in
-    let n = c.count_back-n.result in
-    let k = c.count_back-m.result in
-    let e = c.count_back-n.ensures in
-    let f = c.count_back-m.ensures in
-    (e, f, λ i. is_lt (compare_rows (take_all n a (omega (arith, e)) i) (take_all k b (omega (arith, f)) i)))
+    λ i. is_lt (compare_rows (take_all c.count_back-n.result a (omega (arith, c.count_back-n.ensures)) i) (take_all c.count_back-m.result b (omega (arith, c.count_back-m.ensures)) i))
 
 pub tuple_back-requires : goal.tuple_back-requires
-tuple_back-requires c = (c.requires.first_value.0, c.requires.first_value.2, c.requires.stands.0, omega (arith, c.if-n-i.false, c.loop-i.invariant.0))
+tuple_back-requires c = (c.requires.first_value.0, c.requires.first_value.2, c.requires.stands.0, omega (arith, c.loop-i-test.true, c.min-i-end.ensures, c.count_back-n.ensures))
 
 pub tuple_back-requires-in-loop-i : goal.tuple_back-requires-in-loop-i
-tuple_back-requires-in-loop-i c = (c.requires.first_value.1, c.requires.first_value.2, c.requires.stands.1, omega (arith, c.if-m-i.false, c.loop-i.invariant.1))
+tuple_back-requires-in-loop-i c = (c.requires.first_value.1, c.requires.first_value.2, c.requires.stands.1, omega (arith, c.loop-i-test.true, c.min-i-end.ensures, c.count_back-m.ensures))
 
 pub loop-i-preserved : goal.loop-i-preserved
 loop-i-preserved c =
-    let v = c.loop-i.invariant in
-    (v.0, v.1, turn _ _ _ _ _ v.0 v.1 c.tuple_back.ensures c.tuple_back-in-loop-i.ensures c.compare_tuples.ensures c.in-Equal.is c.if-n-i.false c.if-m-i.false ∙ v.2)
-
-pub returns-then-m-i : goal.returns-then-m-i
-returns-then-m-i c =
-    let v = c.loop-i.invariant in
-    none_left _ _ _ _ _ v.0 v.1 c.if-m-i.true ∙ v.2
-
-pub returns-then-n-i : goal.returns-then-n-i
-returns-then-n-i c =
-    let v = c.loop-i.invariant in
-    prefix _ _ _ _ _ v.0 v.1 c.if-n-i.true c.if-m-i.false ∙ v.2
+    turn _ _ _ _ _ c.count_back-n.ensures c.count_back-m.ensures c.tuple_back.ensures c.tuple_back-in-loop-i.ensures (c.cmp.ensures ∙ tuples_ordered _ _) c.in-Equal.is (omega (arith, c.loop-i-test.true, c.min-i-end.ensures)) (omega (arith, c.loop-i-test.true, c.min-i-end.ensures)) ∙ c.loop-i.invariant
 
 pub returns-in-Less : goal.returns-in-Less
 returns-in-Less c =
-    let v = c.loop-i.invariant in
-    turn _ _ _ _ _ v.0 v.1 c.tuple_back.ensures c.tuple_back-in-loop-i.ensures c.compare_tuples.ensures c.in-Less.is c.if-n-i.false c.if-m-i.false ∙ v.2
+    turn _ _ _ _ _ c.count_back-n.ensures c.count_back-m.ensures c.tuple_back.ensures c.tuple_back-in-loop-i.ensures (c.cmp.ensures ∙ tuples_ordered _ _) c.in-Less.is (omega (arith, c.loop-i-test.true, c.min-i-end.ensures)) (omega (arith, c.loop-i-test.true, c.min-i-end.ensures)) ∙ c.loop-i.invariant
 
 pub returns-in-Greater : goal.returns-in-Greater
 returns-in-Greater c =
-    let v = c.loop-i.invariant in
-    turn _ _ _ _ _ v.0 v.1 c.tuple_back.ensures c.tuple_back-in-loop-i.ensures c.compare_tuples.ensures c.in-Greater.is c.if-n-i.false c.if-m-i.false ∙ v.2
+    turn _ _ _ _ _ c.count_back-n.ensures c.count_back-m.ensures c.tuple_back.ensures c.tuple_back-in-loop-i.ensures (c.cmp.ensures ∙ tuples_ordered _ _) c.in-Greater.is (omega (arith, c.loop-i-test.true, c.min-i-end.ensures)) (omega (arith, c.loop-i-test.true, c.min-i-end.ensures)) ∙ c.loop-i.invariant
+
+pub returns : goal.returns
+returns c = ends _ _ _ _ _ c.count_back-n.ensures c.count_back-m.ensures (omega (arith, c.loop-i-test.false, c.loop-i.auto.i-end, c.min-i-end.ensures)) ∙ c.loop-i.invariant

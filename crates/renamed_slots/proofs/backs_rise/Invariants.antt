@@ -1,7 +1,5 @@
 -- `renamed_slots::backs_rise` meets its contract. Assumes nothing.
 use mathlib.Core.Path.{◌≡◌}
-use Prim.Native.Nat.{◌-◌}
-use lib.ListN.{length}
 use Rattle.names.specs.Ordering.{Row, compare_rows}
 use Rattle.std.specs.Ordering.{is_lt}
 use Rattle.names.proofs.CompareTuples.{left}
@@ -18,8 +16,4 @@ back_of s log b = shaped (name_of s) (names_of log) b
 
 abbrev pub invariant-loop-i : goal.invariant-loop-i
 invariant-loop-i l =
-    (l.n ≡ length (back_of l.first l.log l.a)) × (l.m ≡ length (back_of l.second l.log l.b)) ×
-    (is_lt (left (back_of l.first l.log l.a) (back_of l.second l.log l.b) l.n l.m l.i) ≡ is_lt (compare_rows (back_of l.first l.log l.a) (back_of l.second l.log l.b)))
-
-abbrev pub decreases-loop-i : goal.decreases-loop-i
-decreases-loop-i l = l.n - l.i
+    is_lt (left (back_of l.first l.log l.a) (back_of l.second l.log l.b) l.n l.m l.i) ≡ is_lt (compare_rows (back_of l.first l.log l.a) (back_of l.second l.log l.b))

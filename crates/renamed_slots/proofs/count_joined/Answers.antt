@@ -5,6 +5,6 @@ use Rattle.renamed_slots.proofs.count_joined.Goals as goal
 
 pub returns : goal.returns
 returns c =
-    let r = count_of c.args.log.now c.span_of-r.result c.span_of-r.ensures.1 in
-    let v = count_of c.args.slot.now c.own-v.result c.own-v.ensures.1 in
+    let r = count_of c.args.log.now c.span_of.result c.span_of.ensures.1 in
+    let v = count_of c.args.slot.now c.own.result c.own.ensures.1 in
     λ i. r i + 1 + v i

@@ -9,8 +9,8 @@ use Rattle.slots.proofs.TuplesInBytes.{length_tuples_at}
 use Rattle.slots.proofs.NameTests.{name_over_lem}
 use Rattle.renamed_slots.proofs.name_in.Goals as goal
 
-pub depth-count-requires : goal.depth-count-requires
-depth-count-requires c = omega (arith, (kept c.args.slot.now c.requires).long)
+pub depth-requires : goal.depth-requires
+depth-requires c = omega (arith, (kept c.args.slot.now c.requires).long)
 
 pub returns : goal.returns
 returns c =
@@ -18,5 +18,5 @@ returns c =
     let v = kept s c.requires in
     let long = v.long in
     let fit = v.fit in
-    let row = name_over_lem limit s c.depth-count.result c.depth-count.ensures in
-    ((omega arith, omega arith), row, sym (length_tuples_at s head_size c.depth-count.result) ∙ ap length row)
+    let row = name_over_lem limit s c.depth.result c.depth.ensures in
+    ((omega arith, omega arith), row, sym (length_tuples_at s head_size c.depth.result) ∙ ap length row)

@@ -24,17 +24,14 @@ overflow_sub-first c =
     let log = c.args.log.now in
     omega (arith, count_of log c.span_of-r.result c.span_of-r.ensures.1, logged_long log c.args.k c.requires.log_value.0 c.requires.log_value.1)
 
-pub overflow_mul-from : goal.overflow_mul-from
-overflow_mul-from c = omega (arith, (logged c.args.log.now c.requires.log_value.0).count, c.requires.log_value.1)
+pub overflow_mul-at : goal.overflow_mul-at
+overflow_mul-at c = omega (arith, (logged c.args.log.now c.requires.log_value.0).count, c.requires.log_value.1)
 
-pub overflow_add-from : goal.overflow_add-from
-overflow_add-from c = omega (arith, (logged c.args.log.now c.requires.log_value.0).count, c.requires.log_value.1)
+pub overflow_add-at : goal.overflow_add-at
+overflow_add-at c = omega (arith, (logged c.args.log.now c.requires.log_value.0).count, c.requires.log_value.1)
 
-pub overflow_mul-to : goal.overflow_mul-to
-overflow_mul-to c = omega (arith, (logged c.args.log.now c.requires.log_value.0).count, c.requires.log_value.1)
-
-pub overflow_add-to : goal.overflow_add-to
-overflow_add-to c = omega (arith, (logged c.args.log.now c.requires.log_value.0).count, c.requires.log_value.1)
+pub overflow_add-at-2 : goal.overflow_add-at-2
+overflow_add-at-2 c = omega (arith, (logged c.args.log.now c.requires.log_value.0).count, c.requires.log_value.1)
 
 pub read_line-requires : goal.read_line-requires
 read_line-requires c = (kept c.args.slot.now c.requires.slot_size_in_bounds.1).long

@@ -16,8 +16,8 @@ use Rattle.renamed_slots.proofs.write_restored.Goals as goal
 pub overflow_mul-at : goal.overflow_mul-at
 overflow_mul-at c = omega (arith, (logged c.args.log.now c.requires.2).count, c.requires.3)
 
-pub overflow_add-end : goal.overflow_add-end
-overflow_add-end c = omega (arith, (logged c.args.log.now c.requires.2).count, c.requires.3)
+pub overflow_add-at : goal.overflow_add-at
+overflow_add-at c = omega (arith, (logged c.args.log.now c.requires.2).count, c.requires.3)
 
 pub slice_bounds-write_name_of-end : goal.slice_bounds-write_name_of-end
 slice_bounds-write_name_of-end c = omega (arith, (logged c.args.log.now c.requires.2).count, c.requires.3)
