@@ -4,11 +4,11 @@
 -- `path_ends`). Assumes nothing.
 use mathlib.Core.Path.{◌≡◌, refl, sym, ap, ◌∙◌}
 use mathlib.Core.List.{List, [], ◌∷◌, ◌++◌, map, map-append, append_assoc, head-eq_of_cons-eq, tail-eq_of_cons-eq}
-use Prim.Native.Nat.{ℕ, zero, suc, ◌+◌, ◌<◌, ◌≤◌}
+use Prim.Native.Nat.{ℕ, zero, suc, ◌+◌, ◌≤◌}
 use native.Mathlib.Nat.{le_refl}
 use native.Mathlib.Omega.{arith}
 use lib.ListN.{length, length-append}
-use Rattle.epoch_tree.specs.Tables.{Entry, max_entries, entry_at}
+use Rattle.epoch_tree.specs.Tables.{Entry, entry_at}
 use Rattle.epoch_tree.specs.Tree.{parent_of, route_within, route, path}
 use Rattle.epoch_tree.proofs.TableFacts.{Table}
 

@@ -2,7 +2,7 @@
 -- index u16. Entry 0 is all zero. Every other entry has node at least 1, a parent index below its own index, and a (node,
 -- sequence) that no other entry has." 02, P1: "An epoch entry is to carry the number of names in its rename's log (u16, 1..256)";
 -- "Entries become 10 bytes, the count after the parent index; entry 0 stays all zero."
-use Rattle.std.specs.Prelude.{ℕ, suc, ◌+◌, ◌%◌, List, [], ◌∷◌, ◌++◌, map, Bool, true, false, not, ◌&&◌, ◌||◌, length, take, drop, get_or, eqb, leb, ltb}
+use Rattle.std.specs.Prelude.{ℕ, suc, ◌+◌, ◌%◌, List, [], ◌∷◌, ◌++◌, map, Bool, true, not, ◌&&◌, length, take, drop, get_or, eqb, leb, ltb}
 use Rattle.names.specs.Names.{within}
 use Rattle.numbers.specs.Lists.{equal_parts}
 use Rattle.std.specs.Simd.{first_chunks}

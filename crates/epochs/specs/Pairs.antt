@@ -7,6 +7,10 @@ use Rattle.epoch_tree.specs.Tables.{Entry, entry_at}
 abbrev pub pair_number : Entry → ℕ
 pair_number e = e.node * 4294967296 + e.sequence
 
+-- parent index and count, of which the count has 16 bits
+abbrev pub rest_number : Entry → ℕ
+rest_number e = e.parent * 65536 + e.count
+
 -- count, node and sequence, the key of the comparison; node and sequence have 48 bits
 abbrev pub key_number : Entry → ℕ
 key_number e = e.count * 281474976710656 + pair_number e

@@ -13,7 +13,7 @@ ghost use Rattle.numbers.specs.Bytes.{put};
 ghost use Rattle.answers.specs.Answers.{leaves};
 ghost use Rattle.epoch_tree.specs.Tables.{entry_size, max_entries, entry_of, entries_in, entries_of, entry_at, entry_bytes, is_first, is_count, same_pair, listed, keeps_entry, keeps_from, is_table, keeps_table};
 ghost use Rattle.epoch_tree.specs.Tree.{parent_of, compare_keys, compare_epochs, greater, target as target_of, step_to, next_step};
-ghost use Rattle.epochs.specs.Pairs.{pair_number, key_number, groups, group_of, Under};
+ghost use Rattle.epochs.specs.Pairs.{pair_number, rest_number, key_number, groups, group_of, Under};
 ghost use Rattle.epochs.specs.Calls.{check_table, step_number, step_index, number_in, index_in, answer_of, next_step_outcome, entry_by, add_outcome};
 
 use answers::{Answer, Refusal};
@@ -40,42 +40,52 @@ pub const TABLE: usize = ENTRIES * ENTRY;
 
 // ── entries ──
 
-// How many nodes, sequences and parent indices there are: the factors by which numbers that stand side by side are one.
+// How many nodes, sequences, parent indices and counts there are: the factors by which numbers that stand side by side are one.
 const NODES: u64 = 65536;
 
 const SEQUENCES: u64 = 4294967296;
 
 const PARENTS: u64 = 65536;
 
+const COUNTS: u32 = 65536;
+
+// "node u16, sequence u32" as one number: the compiler makes one load of it, of which it takes both. Tried and slower: a read of each number by
+// itself, which needs more registers than there are where the check of a table is part of `add`.
+fn pair_of(entry: &[u8; ENTRY]) -> u64
+    ensures { result ≡ pair_number (entry_of entry.now) }
+{
+    numbers::read_u64(entry, 0) / PARENTS
+}
+
 fn node_of(entry: &[u8; ENTRY]) -> u16
     ensures { result ≡ (entry_of entry.now).node }
 {
-    numbers::read_u16(entry, 0)
+    (pair_of(entry) / SEQUENCES) as u16
 }
 
 fn sequence_of(entry: &[u8; ENTRY]) -> u32
     ensures { result ≡ (entry_of entry.now).sequence }
 {
-    numbers::read_u32(entry, SEQUENCE)
+    (pair_of(entry) % SEQUENCES) as u32
+}
+
+// "parent index u16" and "the count after the parent index", likewise.
+fn rest_of(entry: &[u8; ENTRY]) -> u32
+    ensures { result ≡ rest_number (entry_of entry.now) }
+{
+    numbers::read_u32(entry, PARENT)
 }
 
 fn parent_of(entry: &[u8; ENTRY]) -> usize
     ensures { result ≡ (entry_of entry.now).parent }
 {
-    usize::from(numbers::read_u16(entry, PARENT))
+    (rest_of(entry) / COUNTS) as usize
 }
 
 fn count_of(entry: &[u8; ENTRY]) -> u16
     ensures { result ≡ (entry_of entry.now).count }
 {
-    numbers::read_u16(entry, COUNT)
-}
-
-// "node u16, sequence u32" as one number, of which the compiler makes one load.
-fn pair_of(entry: &[u8; ENTRY]) -> u64
-    ensures { result ≡ pair_number (entry_of entry.now) }
-{
-    numbers::read_u64(entry, 0) / PARENTS
+    (rest_of(entry) % COUNTS) as u16
 }
 
 // ── the layout ──
@@ -91,10 +101,7 @@ fn count_ok(count: u16) -> bool
 fn first_ok(entry: &[u8; ENTRY]) -> bool
     ensures { result ≡ is_first (entry_of entry.now) }
 {
-    node_of(entry) == 0
-        && sequence_of(entry) == 0
-        && parent_of(entry) == 0
-        && count_of(entry) == 0
+    node_of(entry) == 0 && sequence_of(entry) == 0 && parent_of(entry) == 0 && count_of(entry) == 0
 }
 
 // The entry has that (node, sequence).
