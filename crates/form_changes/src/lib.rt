@@ -19,7 +19,7 @@ use slots::{Span, TUPLE};
 
 // What stands before the line numbers of a group: its first name, which comes `onward` after the one at `name`, and how many slots it has. Without slots
 // nothing stands there.
-#[derive(Clone, Copy)]
+#[derive(Clone, Copy, Debug, PartialEq, Eq)]
 pub struct Head {
     pub name: Span,
     pub onward: u32,
@@ -28,7 +28,7 @@ pub struct Head {
 
 // The bytes from `from` up to `to` give way. Of those before, the group whose line numbers begin at `lines` has `count` slots then; with 0 they stay as they
 // are. Those after are of a group with the head `rest`, or without one go on in the group before.
-#[derive(Clone, Copy)]
+#[derive(Clone, Copy, Debug, PartialEq, Eq)]
 pub struct Change {
     pub from: usize,
     pub to: usize,

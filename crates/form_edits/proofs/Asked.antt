@@ -49,9 +49,6 @@ laid_bounds fs g hs l f = record {
   named = ap is_name l.first ∙ l.named;
 }
 
-no_after : (j : Bool) → ¬ (j ≡ false) → ¬ (After false ≡ After j)
-no_after j n e = n (let same : After false ≡ After j = e in let q : false ≡ j = cc in sym q)
-
 module _ (s slot : Bytes) (k : Octets s) (so : Octets slot) (name : Span) (e : Edited s slot name) where
   abbrev x : Row
   x = name_of slot

@@ -67,7 +67,7 @@ fn after_place(block: Block) -> usize
 
 // Where a name stands in a group whose first name is not above it: it is the name of that slot, it lies before that slot, within the group, or
 // it is above them all, and would go on with the run or not.
-#[derive(Clone, Copy)]
+#[derive(Clone, Copy, Debug, PartialEq, Eq)]
 enum Met {
     Here(usize),
     Inside(usize),
@@ -117,7 +117,7 @@ fn meet(form: &[u8], block: Block, slot: &[u8], name: Span) -> Met
 // ── insert ──
 
 // How a slot is put into a form: the change, and the head of its name, of as many slots as it begins.
-#[derive(Clone, Copy)]
+#[derive(Clone, Copy, Debug, PartialEq, Eq)]
 struct Insertion {
     head: Head,
     change: Change,

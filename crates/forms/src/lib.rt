@@ -21,7 +21,7 @@ use slots::{Span, TUPLE};
 use std::cmp::Ordering;
 
 // A group where it stands in a form: its first name, where its line numbers stand, and how many slots it has.
-#[derive(Clone, Copy)]
+#[derive(Clone, Copy, Debug, PartialEq, Eq)]
 pub struct Block {
     pub name: Span,
     pub lines: usize,
@@ -46,10 +46,10 @@ pub fn no_block() -> Block
 
 // The eight bytes between the name and the line numbers of a group of no slots as one number: the field of the length, and tag and length of
 // the field of the line numbers.
-const SIZES: u64 = 504405357289275392;
+const SIZES: u64 = 0x0700_0200_0008_0000;
 
 // How much more each slot makes of it: one more in the length, four more in the length of the other field.
-const SLOT_SIZES: u64 = 16777220;
+const SLOT_SIZES: u64 = 0x0100_0004;
 
 // The group whose fields stand one after the other from the cursor on, or none. That all but its line numbers is within the form is asked first: where
 // it would end is then known before its bytes are tested.
@@ -148,7 +148,7 @@ fn group_ok(form: &[u8], block: Block) -> bool
 }
 
 // How a name comes after a group: as the next of its run, above its last name, or not.
-#[derive(Clone, Copy)]
+#[derive(Clone, Copy, Debug, PartialEq, Eq)]
 enum After {
     Joins,
     Falls,
@@ -197,7 +197,7 @@ fn after_block(form: &[u8], last: Block, name: Span) -> After
 
 // How many groups, from the first on, have a first name that is not above a given one, and where the last of them begins and the one before
 // it. It is sought until a group's first name is above; the rest is told then too, so that `sought` makes no Option of it.
-#[derive(Clone, Copy)]
+#[derive(Clone, Copy, Debug, PartialEq, Eq)]
 pub struct Place {
     pub sought: bool,
     pub groups: usize,
@@ -231,7 +231,7 @@ fn seek(form: &[u8], first: Span, at: usize, slot: &[u8], name: Span, place: Pla
 
 // What one look at a form tells, its order and the number of its slots apart: whether its names rise; how many slots it has; and where a
 // name would stand.
-#[derive(Clone, Copy)]
+#[derive(Clone, Copy, Debug, PartialEq, Eq)]
 pub struct Looked {
     pub rises: bool,
     pub slots: usize,

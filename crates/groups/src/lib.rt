@@ -21,7 +21,7 @@ pub const LINE: usize = 4;
 pub const SLOT_LINE: usize = 4;
 
 // The most slots of a group: so many line numbers have room in a field.
-pub const MOST: usize = 16383;
+pub const MOST: usize = u16::MAX as usize / LINE;
 
 // The bytes of a group beside its tuples and its line numbers, and those of them that stand after the tuples.
 pub const GROUP: usize = FIELD + AFTER_NAME;
