@@ -1,5 +1,4 @@
--- What is left of a comparison: of two tuples by their fields, of two names at index i, and of a name
--- and one tuple. Assumes nothing.
+-- What is left of a comparison of two names at index i, and of a name and one tuple. Assumes nothing.
 use mathlib.Core.Path.{◌≡◌, refl, sym}
 use mathlib.Core.List.{List, [], ◌∷◌}
 use Prim.Native.Nat.{ℕ, ◌+◌, ◌<◌, ◌≤◌}
@@ -10,12 +9,8 @@ use lib.Seq.{drop-cons, get_or-take, length-take-le}
 use Rattle.names.specs.declared.Tuple.{Tuple}
 use Rattle.std.specs.declared.cmp.Ordering.{Ordering}
 use Rattle.std.specs.declared.cmp.Ordering.TheVariants.{Less, Equal, Greater}
-use Rattle.names.specs.Ordering.{Row, compare_ℕ, compare_ℤ, compare_tuples, compare_rows}
+use Rattle.names.specs.Ordering.{Row, compare_tuples, compare_rows}
 use Rattle.std.specs.Ordering.{ordering_then}
-
-pub tuple_by : (s t : Tuple) {p n q o y z r : Ordering} → p ≡ compare_ℕ s.position t.position → n ≡ compare_ℕ s.node t.node → q ≡ compare_ℕ s.sequence t.sequence → o ≡ compare_ℤ s.offset t.offset → z ≡ ordering_then q o → y ≡ ordering_then n z → r ≡ ordering_then p y → r ≡ compare_tuples s t
-unfolding compare_tuples
-tuple_by s t e₁ e₂ e₃ e₄ e₅ e₆ e₇ = cc
 
 -- of n tuples of xs and m of ys, those from i on
 abbrev pub left : List Tuple → List Tuple → ℕ → ℕ → ℕ → Ordering

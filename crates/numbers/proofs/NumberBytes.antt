@@ -1,5 +1,4 @@
--- The bytes of a number: written from the lowest of a number turned round (`low_turned`), read back from bytes that stand somewhere
--- (`here16`, `here32`) or were written (`sum16`, `back32`). Assumes nothing.
+-- The bytes of a number, read back from bytes that stand somewhere (`here16`, `here32`) or were written (`sum16`, `back32`). Assumes nothing.
 use mathlib.Core.Path.{◌≡◌, ◌∙◌, ap}
 use mathlib.Core.List.{[], ◌∷◌, ◌++◌}
 use Prim.Native.Nat.{ℕ, ◌+◌, ◌*◌, ◌/◌, ◌%◌, ◌<◌, suc, ◌≤◌}
@@ -8,41 +7,8 @@ use native.Mathlib.Nat.{add_assoc}
 use lib.ListN.{length, take, get_or, drop}
 use lib.Seq.{drop-cons, get_or-append-add}
 use Rattle.numbers.specs.Bytes.{Bytes, bytes16, bytes32, Octets, at16, at32}
-use Rattle.numbers.proofs.ReadNumbers.{mod256, div256, div65536, div16777216, fits16}
+use Rattle.numbers.proofs.ReadNumbers.{fits16}
 use Rattle.numbers.proofs.Lists.{next_to}
-
--- four bytes of a number, the lowest first
-abbrev pub low : ℕ → Bytes
-low x = x % 256 ∷ x / 256 % 256 ∷ x / 65536 % 256 ∷ x / 16777216 ∷ []
-
-digits : (a b c d x : ℕ) → a < 256 → b < 256 → c < 256 → d < 256 → x ≡ a * 16777216 + b * 65536 + c * 256 + d → low x ≡ d ∷ c ∷ b ∷ a ∷ []
-digits a b c d x ha hb hc hd e =
-    let e0 : x ≡ d + (a * 65536 + b * 256 + c) * 256 = omega arith in
-    let e1 : a * 65536 + b * 256 + c ≡ c + (a * 256 + b) * 256 = omega arith in
-    let e2 : x ≡ c * 256 + d + (a * 256 + b) * 65536 = omega arith in
-    let e3 : x ≡ b * 65536 + c * 256 + d + a * 16777216 = omega arith in
-    let f : a * 256 + b ≡ b + a * 256 = omega arith in
-    λ i.
-    mod256 x d (a * 65536 + b * 256 + c) e0 hd i
-    ∷ mod256 (x / 256) c (a * 256 + b) (div256 x d (a * 65536 + b * 256 + c) e0 hd ∙ e1) hc i
-    ∷ mod256 (x / 65536) b a (div65536 x (c * 256 + d) (a * 256 + b) e2 (omega arith) ∙ f) hb i
-    ∷ div16777216 x (b * 65536 + c * 256 + d) a e3 (omega arith) i
-    ∷ []
-
-one : (v : ℕ) → v / 16777216 ≡ v / 65536 / 256
-one v = omega arith
-
-two : (v : ℕ) → v / 256 % 256 ≡ v % 65536 / 256
-two v = omega arith
-
-three : (v : ℕ) → v % 256 ≡ v % 65536 % 256
-three v = omega arith
-
--- the bytes of a number turned round, the lowest first, are its bytes, the highest first
-pub low_turned : (v x : ℕ) → v < 4294967296 → x ≡ v % 256 * 16777216 + v / 256 % 256 * 65536 + v / 65536 % 256 * 256 + v / 16777216 → low x ≡ bytes32 v
-low_turned v x h e =
-    digits (v % 256) (v / 256 % 256) (v / 65536 % 256) (v / 16777216) x (omega arith) (omega arith) (omega arith) (omega arith) e
-    ∙ (λ i. one v i ∷ v / 65536 % 256 ∷ two v i ∷ three v i ∷ [])
 
 high_part : (p n : ℕ) → n < 65536 → (p * 65536 + n) / 65536 ≡ p
 high_part p n h = omega arith

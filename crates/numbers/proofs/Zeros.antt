@@ -1,13 +1,13 @@
 -- Zero bytes, several at a time. Assumes nothing.
 use mathlib.Core.Path.{◌≡◌, refl, ◌∙◌, sym}
-use mathlib.Core.List.{[], ◌∷◌, ◌++◌}
+use mathlib.Core.List.{[], ◌∷◌}
 use mathlib.Core.Bool.{true, ◌&&◌, and-true}
-use Prim.Native.Nat.{ℕ, ◌+◌, ◌*◌, ◌<◌, ◌≤◌, zero, suc}
+use Prim.Native.Nat.{ℕ, ◌+◌, ◌<◌, ◌≤◌, zero, suc}
 use native.Mathlib.Decide.{dec_le}
 use native.Mathlib.Omega.{arith}
 use borrow.Author.Tests.{eq-eqb, ne_eqb, eqb-true}
 use lib.Dec.{eqb}
-use lib.ListN.{length, get_or, take, drop, replicate, replicate-append-replicate}
+use lib.ListN.{length, get_or, take, drop, replicate}
 use lib.Seq.{drop-cons}
 use Rattle.numbers.specs.Bytes.{Bytes, at16, at32, at64, is_zero, all_zero}
 use Rattle.numbers.proofs.Bools.{and_0, and_1}
@@ -57,7 +57,3 @@ all_zeros (x ∷ l) e =
 pub zeros_zero : (n : ℕ) → all_zero (replicate n 0) ≡ true
 zeros_zero zero = refl
 zeros_zero (suc n) = zeros_zero n
-
--- four zeros more
-pub zeros_on : (k : ℕ) → replicate {A = ℕ} (4 * (k + 1)) 0 ≡ replicate (4 * k) 0 ++ (0 ∷ 0 ∷ 0 ∷ 0 ∷ [])
-zeros_on k = let e : 4 * (k + 1) ≡ 4 * k + 4 = omega arith in rw e (sym (replicate-append-replicate (4 * k) 4 0))

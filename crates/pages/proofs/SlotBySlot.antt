@@ -5,7 +5,7 @@ use mathlib.Core.Bool.{Bool, true, ◌&&◌, and-true}
 use Prim.Native.Nat.{ℕ, ◌+◌, ◌*◌, ◌-◌, ◌/◌, ◌<◌, ◌≤◌, min}
 use native.Mathlib.Omega.{arith}
 use lib.ListN.{length, get_or, take, drop, length-take, length-drop, length-map, get_or-map}
-use lib.Seq.{drop-drop, take_all}
+use lib.Seq.{take_all}
 use Rattle.names.specs.Ordering.{Row, compare_rows, rising}
 use Rattle.std.specs.Ordering.{is_lt}
 use Rattle.numbers.specs.Bytes.{Bytes}
@@ -13,12 +13,12 @@ use Rattle.std.specs.List.{list_all}
 use Rattle.std.specs.Simd.{first_chunks}
 use Rattle.names.specs.Names.{limit}
 use Rattle.slots.specs.Tuples.{tuples_at}
-use Rattle.slots.specs.Slots.{size_over, name_over, slot_over, keeps_over, head_size, slot_size, depth_of, slot_of, name_of, keeps_slot}
+use Rattle.slots.specs.Slots.{size_over, slot_over, keeps_over, head_size, slot_size, depth_of, slot_of, name_of, keeps_slot}
 use Rattle.slots.proofs.TuplesInBytes.{tuples_on, tuples_within}
 use Rattle.slots.proofs.NameTests.{name_is}
 use Rattle.numbers.proofs.Every.{every_at, every_each, every_end}
-use Rattle.numbers.proofs.Parts.{length_parts as length_equal, get_or_parts, parts_first, parts_none}
-use Rattle.pages.specs.Pages.{parts_over, names_over, slots_over, parts, parts_of, slots_of, name_in}
+use Rattle.numbers.proofs.Parts.{length_parts as length_equal, get_or_parts}
+use Rattle.pages.specs.Pages.{parts_over, slots_over, parts, parts_of, slots_of, name_in}
 
 -- ── slots with room for so many tuples: the first of those from `at` on, and the rest ──
 
@@ -36,28 +36,6 @@ pub lent_keeps : (room : ℕ) (s : Bytes) (n k : ℕ) → k < n → list_all (ke
 lent_keeps room s n k h e =
     let l : k < length (first_chunks (size_over room) n s) = rw length_equal h in
     ap (keeps_over room) (part_over room s n k (size_over room * k) refl h) ∙ every_each (keeps_over room) (first_chunks (size_over room) n s) k [] l e
-
-module _ (room : ℕ) (s : Bytes) (at : ℕ) (h : size_over room ≤ length s - at) where
-  pub lent_length_over : length (lent_over room s at) ≡ size_over room
-  lent_length_over = simp (length-take, length-drop) (omega arith)
-
-  pub first_part : parts_over room (drop at s) ≡ lent_over room s at ∷ parts_over room (drop (at + size_over room) s)
-  first_part =
-      let e : size_over room ≡ at + size_over room - at = omega arith in
-      let l : size_over room ≤ length (drop at s) = rw length-drop h in
-      parts_first (size_over room) (drop at s) (omega arith) l
-      ∙ (λ i. take (e i) (drop at s) ∷ parts_over room (drop-drop (size_over room) at s i))
-
-  first_name : names_over room (drop at s) ≡ name_over room (lent_over room s at) ∷ names_over room (drop (at + size_over room) s)
-  first_name = ap (λ (l : List Bytes). map name_in (map (slot_over room) l)) first_part
-
--- no whole slot is left
-module _ (room : ℕ) (s : Bytes) (at : ℕ) (h : length s - at < size_over room) where
-  pub no_part : parts_over room (drop at s) ≡ []
-  no_part = let l : length (drop at s) < size_over room = rw length-drop h in parts_none (size_over room) (drop at s) l
-
-  no_name : names_over room (drop at s) ≡ []
-  no_name = ap (λ (l : List Bytes). map name_in (map (slot_over room) l)) no_part
 
 -- ── a page's slots by their index ──
 

@@ -1,5 +1,5 @@
 -- The sorts of tuples told by their bytes: ordinary ones, last ones, markers. Assumes nothing.
-use Rattle.std.proofs.Common.{◌≡◌, ℕ, ◌+◌, ◌-◌, ◌*◌, ◌/◌, ◌%◌, ◌^◌, ◌<◌, ◌≤◌, Bool, true, false, ◌&&◌, ◌||◌, eqb, ltb, leb, get_or, pos, negsuc, sym, refl, ap, ◌∙◌, inl, inr, arith, le-ltb, lt-ltb, eq-eqb, ne_eqb, le-leb}
+use Rattle.std.proofs.Common.{◌≡◌, ℕ, ◌+◌, ◌*◌, ◌/◌, ◌%◌, ◌<◌, ◌≤◌, Bool, true, false, ◌&&◌, ◌||◌, eqb, ltb, leb, get_or, pos, negsuc, sym, refl, ap, ◌∙◌, inl, inr, arith, le-ltb, lt-ltb, eq-eqb, ne_eqb, le-leb}
 use mathlib.Core.Bool.{and-true, and-false, and_assoc}
 use native.Mathlib.Decide.{dec_lt}
 use borrow.Author.Tests.{lt-leb}
@@ -10,25 +10,12 @@ use Rattle.names.specs.Ordering.{compare_ℕ, compare_tuples}
 use Rattle.std.specs.Ordering.{ordering_then, is_eq}
 use Rattle.names.specs.Names.{within_ℤ, ordinary_from, ordinary, m, M, marker}
 use Rattle.names.proofs.Laws.{ℕ_less, ℕ_same, ℕ_more, ℕ_cases}
-use Rattle.numbers.proofs.Bools.{leb_by}
 use Rattle.numbers.specs.Bytes.{Bytes, Octets, at16, at32, at64, signed}
 use Rattle.slots.specs.Tuples.{tuple_at}
 use Rattle.numbers.proofs.ReadNumbers.{fits16, fits32, signed_pos, signed_neg}
 use Rattle.slots.proofs.PackedTuples.{front, raised, Held, packed, held_at}
 
 -- ── ordinary tuples ──
-
--- the offset, by its bits
-pub offset_by : (o : ℕ) → o < 4294967296 → leb ((o + 1) % 2 ^ 32) 2147483647 ≡ within_ℤ (negsuc 0) (pos 2147483646) (signed o)
-offset_by o q = elim (dec_lt o 2147483648) [
-  | yes h ↦
-      leb_by ((o + 1) % 2 ^ 32) 2147483647 o 2147483646 (λ k. omega arith) (λ k. omega arith)
-      ∙ sym (ap (within_ℤ (negsuc 0) (pos 2147483646)) (signed_pos o h))
-  | no h ↦
-      let h' : 2147483648 ≤ o = omega arith in
-      leb_by ((o + 1) % 2 ^ 32) 2147483647 (4294967295 - o) 0 (λ k. omega arith) (λ k. omega arith)
-      ∙ sym (ap (within_ℤ (negsuc 0) (pos 2147483646)) (signed_neg o h') ∙ and-true (leb (4294967295 - o) 0))
-]
 
 -- position and node read as one number f, the lowest byte first: a position of 0 or 65535 and a node of 0 are the same either way round
 module _ (s : Bytes) (p : ℕ) (k : Octets s) (f : ℕ) (e : f ≡ get_or s p 0 + get_or s (p + 1) 0 * 256 + get_or s (p + 2) 0 * 65536 + get_or s (p + 3) 0 * 16777216) where

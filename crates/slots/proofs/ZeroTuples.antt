@@ -1,25 +1,17 @@
--- Zero bytes where a tuple, or the three bytes after the depth, would stand. Assumes nothing.
-use Rattle.std.proofs.Common.{◌≡◌, ℕ, ◌+◌, ◌-◌, ◌%◌, ◌<◌, ◌≤◌, Bool, true, false, ◌&&◌, eqb, length, get_or, take, drop, sym, refl, ap, ◌∙◌, arith, length-drop, take_all}
+-- Zero bytes where a tuple would stand, and in two runs at once. Assumes nothing.
+use Rattle.std.proofs.Common.{◌≡◌, ℕ, ◌+◌, ◌-◌, ◌<◌, ◌≤◌, Bool, true, false, ◌&&◌, eqb, length, get_or, take, drop, sym, refl, ap, ◌∙◌, arith, length-drop, take_all}
 use lib.Bits.{bit_or, or_add_and, and_le_l, and_le_r}
-use Rattle.numbers.specs.Bytes.{Bytes, Octets, at16, at32, at64, is_zero, all_zero}
+use Rattle.numbers.specs.Bytes.{Bytes, at32, at64, is_zero, all_zero}
 use Rattle.slots.specs.Tuples.{tuple_size}
 use Rattle.numbers.proofs.Bools.{and_1}
 use Rattle.numbers.proofs.Every.{every_split, every_rest, every_fails}
-use Rattle.numbers.proofs.Zeros.{zero_by, zero8, zero16, zero32, zero64}
+use Rattle.numbers.proofs.Zeros.{zero_by, zero8, zero32, zero64}
 
 -- a tuple's place
 pub zero96 : (s : Bytes) (p : ℕ) → p + tuple_size ≤ length s → all_zero (take tuple_size (drop p s)) ≡ eqb (at64 s p) 0 && eqb (at32 s (p + 8)) 0
 zero96 s p h =
     every_split is_zero s p 8 4
     ∙ (λ i. zero64 s p (omega arith) i && zero32 s (p + 8) (omega arith) i)
-
--- the three bytes after the depth
-pub zero24 : (s : Bytes) → Octets s → 4 ≤ length s → all_zero (take 3 (drop 1 s)) ≡ eqb (at32 s 0 % 16777216) 0
-zero24 s k h =
-    every_split is_zero s 1 1 2
-    ∙ (λ i. zero8 s 1 (omega arith) i && zero16 s 2 (omega arith) i)
-    ∙ zero_by (at32 s 0 % 16777216) (get_or s 1 0) (at16 s 2)
-    (λ e. omega (arith, k 1, k 2, k 3)) (λ e. omega (arith, k 1, k 2, k 3)) (λ e f. omega (arith, k 1, k 2, k 3))
 
 swap : (a b x y : Bool) → (a && b) && (x && y) ≡ (a && x) && (b && y)
 swap false b x y = refl

@@ -438,13 +438,15 @@ pub fn write_tuple(out: &mut [u8], p: usize, t: Tuple)
     numbers::write_u32(out, p + OFFSET, numbers::to_unsigned(t.offset));
 }
 
-// The tuples of a name, one after the other from p on. By their index: of a slice of them the compiler copies the whole name first.
+// The tuples of a name, one after the other from p on. By their index in an array of their own: over the name's row, or in the name, the compiler
+// first copies the whole name by a call.
 pub fn write_row(out: &mut [u8], p: usize, a: Name)
     requires { p + tuple_size * length (row_of a) ≤ length out.old }
     ensures { out.new ≡ put out.old p (row_bytes (row_of a)) }
 {
+    let tuples = a.tuples;
     for k in 0..names::tuples_in(a) {
-        write_tuple(out, p + TUPLE * k, a.tuples[k]);
+        write_tuple(out, p + TUPLE * k, tuples[k]);
     }
 }
 

@@ -6,4 +6,4 @@ use Rattle.slots.specs.Tuples.{row_bytes}
 use Rattle.slots.proofs.write_row.Given as goal
 
 abbrev pub invariant-loop-k : goal.invariant-loop-k
-invariant-loop-k l = l.out ≡ put l.initial.out l.p (row_bytes (take l.k (row_of l.a)))
+invariant-loop-k l = l.out ≡ put l.initial.out l.p (row_bytes (take l.k (row_of l.fn.a)))
