@@ -25,7 +25,7 @@ use Rattle.answers.specs.declared.Refusal.TheVariants.{BadLayout, NotRising, Bad
 use Rattle.answers.specs.Answers.{Outcome, Test, ◌else◌, in_order, check, count_of, refuse, accept, write, outcome}
 use Rattle.answers.specs.Laws.{Passed}
 use Rattle.answers.proofs.Refusals.{whichever}
-use Rattle.pages.specs.Pages.{max_slots, parts_of, slots_of, names_of, pieces, keeps_layout, rises, line_is_zero, is_log, check_page, check_log}
+use Rattle.pages.specs.Pages.{max_slots, parts_of, slots_of, names_of, pieces, keeps_layout, rises, line_is_zero, is_log, check_over, check_page, check_log}
 use Rattle.pages.specs.Places.{has}
 use Rattle.pages.proofs.SlotBySlot.{length_slots}
 use Rattle.pages.proofs.RoundTrip.{laid_over, laid}
@@ -87,7 +87,7 @@ slots_count l room h = wrote (pieces l) room (let m = length-map l slot_bytes in
 -- ── checks ──
 
 pub check_page_count : (s : Bytes) → count_of (check_page s) < 4294967296
-unfolding check_page
+unfolding check_over
 check_page_count s =
     checks (keeps_layout s else BadLayout ∷ rises s else NotRising ∷ []) (length (slots_of s)) (λ p. let l = few s p.0 in omega arith)
 
