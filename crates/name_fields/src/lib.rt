@@ -21,8 +21,9 @@ pub fn name_field(bytes: &[u8], cursor: Cursor, tag: u8) -> Option<usize>
         return None;
     }
     let size = fields::size_at(bytes, cursor);
-    let whole = fields::field_stands(bytes, cursor, tag, size) && size.is_multiple_of(TUPLE);
-    whole.then_some(size / TUPLE)
+    let count = size / TUPLE;
+    let whole = fields::field_stands(bytes, cursor, tag, size) && TUPLE * count == size;
+    whole.then_some(count)
 }
 
 // The field of a name that stands in s, and the place after it.
