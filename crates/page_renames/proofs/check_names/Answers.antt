@@ -15,6 +15,6 @@ returns-then-alone c =
     let author = c.args.author in
     let v = all_asked page log author c.requires.author_value in
     clears (take_back_tests page log author) (elim c.then-alone.branch [
-      then-alone-via-then-alone w ↦ alone_passes page log author v (c.requires.page_value w.if-alone.true)
-    | then-alone-via-else-alone+then-is_clear w ↦ clear_passes page log author v (sym w.is_clear.ensures ∙ w.if-is_clear.true)
+      | then-alone-via-then-alone w ↦ alone_passes page log author v (c.requires.page_value w.if-alone.true)
+      | then-alone-via-else-alone+then-is_clear w ↦ clear_passes page log author v (sym w.is_clear.ensures ∙ w.if-is_clear.true)
     ])
