@@ -12,7 +12,7 @@ use Rattle.names.specs.Names.{limit, fits}
 use Rattle.numbers.specs.Bytes.{Bytes, put}
 use Rattle.slots.specs.Slots.{Slot, slot_size, name_of, slot_of, slot_bytes}
 use Rattle.numbers.proofs.Every.{every_each}
-use Rattle.numbers.proofs.Pieces.{standing as slots_standing, standing_first as slots_first, standing_last as slots_last, standing_on as slots_on, same_room as slots_room}
+use Rattle.numbers.proofs.Pieces.{standing as slots_standing, standing_first as slots_first, standing_last as slots_last, standing_on as slots_on}
 use Rattle.slots.proofs.RoundTrip.{slot_length}
 use Rattle.pages.specs.Pages.{parts_of, slots_of, names_of, pieces}
 use Rattle.pages.proofs.SlotBySlot.{length_parts}
@@ -40,7 +40,7 @@ module _ (f : Row → Row) (page : Bytes) where
 
   module _ (i : ℕ) (h : i < length page / slot_size) (t : all_fit f page ≡ true) where
     -- slot i, with what f makes of its name
-    abbrev pub piece : Bytes
+    abbrev piece : Bytes
     piece = slot_bytes (carry f (slot_of (get_or (parts_of page) i [])))
 
     pub fit : fits (f (get_or (names_of page) i [])) ≡ true
@@ -67,6 +67,3 @@ module _ (f : Row → Row) (page : Bytes) where
 
       pub standing_on : standing o' (i + 1) ≡ standing o i
       standing_on = slots_on slot_size all i within piece (slot_bytes (carry f (slot_of []))) piece_is long o o' (omega arith) e
-
-      pub same_room : length o' ≡ length o
-      same_room = slots_room slot_size all i within piece (slot_bytes (carry f (slot_of []))) piece_is long o o' (omega arith) e

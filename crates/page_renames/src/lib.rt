@@ -148,10 +148,7 @@ fn check_rename(page: &[u8], log: &[u8], author: Author) -> Result<(), Refusal>
     requires { Passed (opening_tests page.now log.now author) }
     ensures { result ≡ in_order (rename_tests page.now log.now author) Err (Ok tt) }
 {
-    if !all_fresh(page, author) {
-        return Err(Refusal::NotFresh);
-    }
-    if !all_fresh(log, author) {
+    if !all_fresh(page, author) || !all_fresh(log, author) {
         return Err(Refusal::NotFresh);
     }
     if !all_renamed_fit(page, log, author) {
@@ -187,16 +184,8 @@ fn still_rises(
     requires i_value { 1 ≤ i → may_meet last.behind here.ahead (row_of_stem page.now log.now last) (row_of_stem page.now log.now here) ≡ false → is_lt (compare_rows (take_back_row author (names_of log.now) (get_or (names_of page.now) (i - 1) [])) (take_back_row author (names_of log.now) (get_or (names_of page.now) i []))) ≡ true }
     ensures { result ≡ (rises && (ltb i 1 || is_lt (compare_rows (take_back_row author (names_of log.now) (get_or (names_of page.now) (i - 1) [])) (take_back_row author (names_of log.now) (get_or (names_of page.now) i []))))) }
 {
-    if !rises {
-        return false;
-    }
-    if i < 1 {
-        return true;
-    }
-    if !one_name::may_meet(log, page, last, here) {
-        return true;
-    }
-    pair_rises(page, log, author, i)
+    rises
+        && (i < 1 || !one_name::may_meet(log, page, last, here) || pair_rises(page, log, author, i))
 }
 
 // 6, 7 of any page: one walk along it, which keeps the stem of the name before.
@@ -248,13 +237,9 @@ fn is_clear(page: &[u8], log: &[u8], author: Author) -> bool
     ensures { result ≡ (list_all (unmarked_from (shallowest_of (names_of log.now))) (names_of log.now) && list_all (clear_from author (names_of log.now) (shallowest_of (names_of log.now))) (names_of page.now) && leb (deepest_of (names_of log.now) + 1 + deepest_of (names_of page.now)) limit) }
 {
     let from = one_name::shallowest(log);
-    if !one_name::all_unmarked(log, from) {
-        return false;
-    }
-    if !one_name::all_clear(page, log, author, from) {
-        return false;
-    }
-    one_name::deepest(log) + 1 + one_name::deepest(page) <= LIMIT
+    one_name::all_unmarked(log, from)
+        && one_name::all_clear(page, log, author, from)
+        && one_name::deepest(log) + 1 + one_name::deepest(page) <= LIMIT
 }
 
 // 6, 7, where a theorem does not answer both for the whole page. If every name is taken back alone, each has at most LIMIT tuples and they rise, markers
@@ -265,10 +250,7 @@ fn check_names(page: &[u8], log: &[u8], author: Author, alone: bool) -> Result<(
     requires page_value { alone ≡ true → list_all (is_alone author (names_of log.now)) (names_of page.now) ≡ true }
     ensures { result ≡ in_order (take_back_tests page.now log.now author) Err (Ok tt) }
 {
-    if alone {
-        return Ok(());
-    }
-    if is_clear(page, log, author) {
+    if alone || is_clear(page, log, author) {
         return Ok(());
     }
     check_back(page, log, author)

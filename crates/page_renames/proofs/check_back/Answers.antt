@@ -21,9 +21,6 @@ use Rattle.page_renames.proofs.check_back.Goals as goal
 pub loop-i-init : goal.loop-i-init
 loop-i-init c = (refl, refl, λ h. absurd (omega (arith, h)))
 
-pub back_of-back-requires : goal.back_of-back-requires
-back_of-back-requires c = ((all_asked c.args.page.now c.args.log.now c.args.author c.requires).logged, c.span_of-c.ensures.0)
-
 pub stem_of-here-requires : goal.stem_of-here-requires
 stem_of-here-requires c =
     let a = c.args in

@@ -1,14 +1,11 @@
 -- `page_renames::rename` meets its contract. Assumes nothing.
 use Rattle.std.proofs.lemmas.Result.{err_from_is_err_and}
-use Rattle.answers.proofs.Checked.{all_pass, turns_away}
+use Rattle.answers.proofs.Checked.{turns_away}
 use Rattle.answers.proofs.Outcomes.{refused}
 use Rattle.page_renames.specs.Renames.{opening_tests, rename_outcome}
 use Rattle.std.specs.Prelude.{◌≡◌, length}
 use Rattle.answers.specs.Answers.{leaves}
 use Rattle.page_renames.proofs.rename.Goals as goal
-
-pub rename_checked-requires : goal.rename_checked-requires
-rename_checked-requires c = all_pass (opening_tests c.args.page.now c.args.log.now c.args.author) c.check.ensures c.in_ok-check.was
 
 pub returns-in_err-check : goal.returns-in_err-check
 unfolding rename_outcome

@@ -6,8 +6,7 @@ use Rattle.pages.specs.Pages.{names_of}
 use Rattle.answers.proofs.Outcomes.{refused, accepted}
 use Rattle.name_renames.specs.Renaming.{rename}
 use Rattle.page_renames.specs.Renames.{rename_tests, rename_outcome}
-use Rattle.page_renames.proofs.Books.{all_asked}
-use Rattle.page_renames.proofs.LastRefusal.{own_refused, all_fit_lem, short, done, renamed_fit}
+use Rattle.page_renames.proofs.LastRefusal.{own_refused, short, done, renamed_fit}
 use Rattle.std.specs.Prelude.{◌≡◌}
 use Rattle.answers.specs.Answers.{leaves}
 use Rattle.page_renames.proofs.rename_checked.Goals as goal
@@ -26,22 +25,6 @@ returns-then-out-page c =
     let both : (_ ≡ (rename_outcome c.args.page.now c.args.log.now c.args.author (length c.args.out.now)).answer) × (_ ≡ leaves (rename_outcome c.args.page.now c.args.log.now c.args.author (length c.args.out.now)) c.args.out.now) =
     refused _ _ _ (short s g a.author own f fit room c.requires c.check_rename.ensures c.in_ok-check_rename.was (omega arith))
     in record { value = both.0; out_after = both.1 }
-
-pub write_renamed-requires : goal.write_renamed-requires
-write_renamed-requires c =
-    let a = c.args in
-    let s = a.page.now in
-    let g = a.log.now in
-    let own = rename_tests s g a.author in
-    let f = rename a.author (names_of g) in
-    let room = length a.out.now in
-    let fit = renamed_fit s g a.author in
-    let v = all_asked s g a.author c.requires in
-    let fits = all_fit_lem s g a.author own f fit room c.requires c.check_rename.ensures c.in_ok-check_rename.was in
-    record {
-      page_value = (v.layout, v.rising, v.logged, omega arith);
-      page_value_2 = fits;
-    }
 
 -- the call's own refusals
 pub returns-in_err-check_rename : goal.returns-in_err-check_rename

@@ -1,14 +1,11 @@
 -- `page_renames::take_back` meets its contract. Assumes nothing.
 use Rattle.std.proofs.lemmas.Result.{err_from_is_err_and}
-use Rattle.answers.proofs.Checked.{all_pass, turns_away}
+use Rattle.answers.proofs.Checked.{turns_away}
 use Rattle.answers.proofs.Outcomes.{refused}
 use Rattle.page_renames.specs.Renames.{opening_tests, take_back_outcome}
 use Rattle.std.specs.Prelude.{◌≡◌, length}
 use Rattle.answers.specs.Answers.{leaves}
 use Rattle.page_renames.proofs.take_back.Goals as goal
-
-pub take_back_checked-requires : goal.take_back_checked-requires
-take_back_checked-requires c = all_pass (opening_tests c.args.page.now c.args.log.now c.args.author) c.check.ensures c.in_ok-check.was
 
 pub returns-in_err-check : goal.returns-in_err-check
 unfolding take_back_outcome

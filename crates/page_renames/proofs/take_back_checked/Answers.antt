@@ -13,18 +13,6 @@ use Rattle.std.specs.Prelude.{◌≡◌}
 use Rattle.answers.specs.Answers.{leaves}
 use Rattle.page_renames.proofs.take_back_checked.Goals as goal
 
-pub all_alone-alone-requires : goal.all_alone-alone-requires
-all_alone-alone-requires c =
-    let a = c.args in
-    (all_asked a.page.now a.log.now a.author c.requires).logged
-
-pub check_names-requires : goal.check_names-requires
-check_names-requires c =
-    record {
-      author_value = c.requires;
-      page_value = λ e. sym c.all_alone-alone.ensures ∙ e;
-    }
-
 -- 8
 pub returns-then-out-page : goal.returns-then-out-page
 unfolding take_back_outcome

@@ -8,18 +8,14 @@ use Rattle.page_renames.proofs.AloneNames.{alone_at_lem}
 use Rattle.page_renames.proofs.SlotBySlot.{standing_first, standing_last, standing_on, fit}
 use Rattle.page_renames.proofs.write_back.Goals as goal
 
-pub write_one_back-requires : goal.write_one_back-requires
-write_one_back-requires c =
-    let a = c.args in
-    let page = a.page.now in
-    let log = a.log.now in
-    let f = take_back a.author (names_of log) in
+pub write_one_back-requires-clause-i_value : goal.write_one_back-requires-clause-i_value
+write_one_back-requires-clause-i_value c =
+    let page = c.args.page.now in
+    let log = c.args.log.now in
+    let author = c.args.author in
     let i = c.loop-i.i in
     let h = c.loop-i-test.true in
-    record {
-      page_value = (c.requires.page_value.0, c.requires.page_value.1, h, omega (arith, c.loop-i.auto.out));
-      i_value = (fit f page i h c.requires.page_value_2, λ e. alone_at_lem page log a.author i h (c.requires.page_value_3 e));
-    }
+    (fit (take_back author (names_of log)) page i h c.requires.page_value_2, λ e. alone_at_lem page log author i h (c.requires.page_value_3 e))
 
 pub loop-i-preserved : goal.loop-i-preserved
 loop-i-preserved c =

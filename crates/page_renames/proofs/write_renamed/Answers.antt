@@ -1,4 +1,4 @@
-use mathlib.Core.Path.{refl, ◌∙◌, sym, ap, subst}
+use mathlib.Core.Path.{◌∙◌, sym, ap, subst}
 use mathlib.Core.List.{List, []}
 use Prim.Native.Nat.{◌*◌, ◌/◌, ◌<◌, ◌≤◌}
 use native.Mathlib.Omega.{arith}
@@ -15,9 +15,6 @@ use Rattle.page_renames.specs.Renames.{carry}
 use Rattle.page_renames.proofs.PageWalk.{slot_name, slot_keeps, walked}
 use Rattle.page_renames.proofs.SlotBySlot.{standing_first, standing_last, standing_on, fit}
 use Rattle.page_renames.proofs.write_renamed.Goals as goal
-
-pub loop-i-init : goal.loop-i-init
-loop-i-init c = (refl, λ h. omega arith)
 
 pub walk-walked-requires : goal.walk-walked-requires
 walk-walked-requires c =
