@@ -87,10 +87,17 @@ pub fn block_at(form: &[u8], cursor: Cursor) -> Option<Block>
     if form.len() < end {
         return None;
     }
-    Some(block_here(form, cursor))
+    Some(Block {
+        name: Span {
+            at: at + FIELD,
+            count: depth,
+        },
+        lines,
+        count,
+    })
 }
 
-// The same where one stands.
+// The same where one stands. `block_at` makes its group itself, of what it has read: a call of this costs some instructions a group.
 pub fn block_here(form: &[u8], cursor: Cursor) -> Block
     requires { (cursor.at ≤ length form.now) × (group_stands (drop cursor.at form.now) ≡ true) }
     ensures value { result ≡ block_here form.now cursor.at }
