@@ -14,6 +14,8 @@ use Rattle.answers.specs.declared.Refusal.TheVariants.{Short}
 use Rattle.answers.specs.Answers.{Outcome, number_of, count_of, ask, refuse}
 use Rattle.new_names.specs.NewNames.{new_name_outcome}
 use Rattle.messages.specs.declared.Numbers.{Numbers}
+use Rattle.messages.specs.Calls.{zeros}
+use Rattle.read_messages.specs.declared.Reading.{Reading}
 
 -- "No." and the count in one number: answer × 2³² + count
 abbrev pub packed : Answer → ℕ
@@ -32,6 +34,15 @@ written (Ok name) room = named (Ok 0) (row_of name) room
 -- "new name 1, 2, 4, 16, 12, 6", and 8 after them
 abbrev pub new_slot_outcome : Bytes → ℕ → Author → ℕ → Outcome
 new_slot_outcome page gap author room = named (new_name_outcome page gap author).answer (new_name_outcome page gap author).name room
+
+-- what reading a message has given: its answer, and the numbers, of a refusal zeros
+abbrev pub answer_in : Result Reading Refusal → Answer
+answer_in (Ok r) = Ok r.names
+answer_in (Err r) = Err r
+
+abbrev pub numbers_in : Result Reading Refusal → Numbers
+numbers_in (Ok r) = r.numbers
+numbers_in (Err r) = zeros
 
 -- kind, epoch, author and line number of a message, each number by itself
 abbrev pub numbers : ℕ → ℕ → ℕ → ℕ → ℕ → ℕ → Numbers

@@ -12,11 +12,12 @@ ghost use Rattle.page_renames.specs.Renames.{rename_outcome, take_back_outcome};
 ghost use Rattle.epochs.specs.Calls.{check_table, number_in, index_in, answer_of, next_step_outcome, add_outcome};
 ghost use Rattle.messages.specs.Calls.{read_outcome, numbers_read, write_outcome};
 ghost use Rattle.groups.specs.Calls.{group_outcome, ungroup_outcome, insert_form_outcome, remove_form_outcome};
-ghost use Rattle.kadalumbir.specs.Library.{packed, written, new_slot_outcome, numbers};
+ghost use Rattle.kadalumbir.specs.Library.{packed, written, answer_in, numbers_in, new_slot_outcome, numbers};
 
 use answers::{Answer, Refusal};
 use messages::Numbers;
 use names::{Author, Name};
+use read_messages::Reading;
 use slots::SLOT;
 
 // answer × 2³² + count
@@ -225,6 +226,19 @@ const NOTHING: Numbers = Numbers {
     line: 0,
 };
 
+fn numbers_in(read: Result<Reading, Refusal>) -> Numbers
+    ensures { result ≡ numbers_in read }
+{
+    read.map_or(NOTHING, |r| r.numbers)
+}
+
+// How many names, which are in the output.
+fn answer_in(read: Result<Reading, Refusal>) -> Answer
+    ensures { result ≡ answer_in read }
+{
+    read.map(|r| r.names)
+}
+
 #[unsafe(no_mangle)]
 pub extern "C" fn kadalumbir_read_message(
     message: &[u8],
@@ -241,14 +255,14 @@ pub extern "C" fn kadalumbir_read_message(
     ensures out_after { out.new ≡ leaves (read_outcome message.now (length out.old)) out.old }
 {
     let read = read_messages::read(message, out);
-    let numbers = read.map_or(NOTHING, |r| r.numbers);
+    let numbers = numbers_in(read);
     *kind = numbers.kind;
     *epoch_node = numbers.epoch.node;
     *epoch_sequence = numbers.epoch.sequence;
     *author_node = numbers.author.node;
     *author_sequence = numbers.author.sequence;
     *line = numbers.line;
-    pack(read.map(|r| r.names))
+    pack(answer_in(read))
 }
 
 // ── forms ──

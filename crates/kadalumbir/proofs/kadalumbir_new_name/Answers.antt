@@ -6,7 +6,7 @@ use Rattle.std.specs.declared.result.Result.{Result}
 use Rattle.std.specs.declared.result.Result.TheVariants.{Ok, Err}
 use Rattle.kadalumbir.specs.Library.{packed, named, written}
 use Rattle.names.specs.declared.Name.{Name}
-use Rattle.names.specs.Names.{row_of}
+use Rattle.names.specs.declared.Author.{Author}
 use Rattle.answers.specs.Answers.{Outcome, leaves}
 use Rattle.answers.specs.declared.Refusal.{Refusal}
 use Rattle.kadalumbir.proofs.Counts.{named_count, new_name_count}
@@ -21,7 +21,7 @@ said (Err r) x room h = λ i. named (sym h i).answer (sym h i).name room
 
 pub pack-requires : goal.pack-requires
 pack-requires c =
-    let by = record { node = c.args.node; sequence = c.args.sequence } in
+    let by : Author = record { node = c.args.node; sequence = c.args.sequence } in
     let x = new_name_outcome c.args.page.now c.args.gap by in
     let room = length c.args.out.now in
     rw (c.write_name.ensures.value, said c.new_name-made.result x room c.new_name-made.ensures) (named_count x.answer x.name room (new_name_count c.args.page.now c.args.gap by))
