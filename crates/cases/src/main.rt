@@ -26,6 +26,6 @@ fn main(rt: HostRuntime) -> io::Result<()> {
     let n = inputs::read_full(&mut rt.stdin(), &mut text)?;
     match str::from_utf8(&text[..n]) {
         Ok(lines) => asked::run_text(&rt, lines),
-        Err(_) => Ok(()),
+        Err(_) => Err(io::Error::from(io::ErrorKind::InvalidData)),
     }
 }
