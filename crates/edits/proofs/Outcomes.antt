@@ -19,9 +19,8 @@ use Rattle.answers.specs.declared.Refusal.TheVariants.{Short, Present, Absent, F
 use Rattle.pages.proofs.SlotBySlot.{length_slots, length_names}
 use Rattle.answers.proofs.Outcomes.{writes_short, writes}
 use Rattle.answers.specs.Laws.{Passed}
-use Rattle.answers.proofs.Refusals.{refuses, failed, goes_on_lem}
+use Rattle.answers.proofs.Checked.{Told, all_pass, turns_away}
 use Rattle.pages.proofs.RoundTrip.{laid}
-use Rattle.std.specs.declared.result.Result.{Result}
 use Rattle.std.specs.declared.result.Result.TheVariants.{Ok, Err}
 use Rattle.edits.specs.Edits.{placed, without, edit_tests, insert_outcome, remove_outcome}
 use Rattle.edits.proofs.Placed.{placed_split, without_split, below_most, below_less, is_gap, is_here_lem}
@@ -29,19 +28,16 @@ use Rattle.edits.proofs.EditedBytes.{with_bytes, without_bytes}
 
 -- ── the tests that both begin with ──
 
--- what they tell, and that no refusal tells that all were passed
-abbrev pub told : Bytes → Bytes → Result Unit Refusal
+-- what they tell
+abbrev pub told : Bytes → Bytes → Told
 told page slot = in_order (edit_tests page slot) Err (Ok tt)
-
-apart : (r : Refusal) → ◌≡◌ {A = Result Unit Refusal} (Err r) (Ok tt) → ⊥
-apart r e = absurd (let z : ◌≡◌ {A = ℕ} 0 1 = cc in omega arith)
 
 module _ (page slot : Bytes) where
   pub checked : told page slot ≡ Ok tt → Passed (edit_tests page slot)
-  checked e = goes_on_lem Err (Ok tt) apart (edit_tests page slot) e
+  checked e = all_pass (edit_tests page slot) (λ i. told page slot) e
 
   pub turned_away : (r : Refusal) (next : Outcome) → told page slot ≡ Err r → in_order (edit_tests page slot) refuse next ≡ refuse r
-  turned_away r next e = failed refuse next (edit_tests page slot) (refuses Err (Ok tt) apart (λ q r f. cc) (edit_tests page slot) e)
+  turned_away r next e = turns_away (edit_tests page slot) (λ i. told page slot) next e
 
 -- ── insert ──
 

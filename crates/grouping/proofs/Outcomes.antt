@@ -12,11 +12,13 @@ use Rattle.slots.specs.Slots.{Slot, slot_size, slot_bytes}
 use Rattle.std.specs.declared.result.Result.TheVariants.{Ok, Err}
 use Rattle.answers.specs.declared.Refusal.{Refusal}
 use Rattle.answers.specs.declared.Refusal.TheVariants.{BadLayout, NotRising, Short, Full, Malformed}
-use Rattle.answers.specs.Answers.{Answer, Test, ◌else◌, Outcome, refuse, write}
+use Rattle.answers.specs.Answers.{Test, ◌else◌, Outcome, refuse, write}
 use Rattle.answers.specs.Laws.{here, later}
-use Rattle.answers.proofs.Refusals.{passed, failed, reached, refuses}
+use Rattle.answers.proofs.Refusals.{passed, failed}
 use Rattle.answers.proofs.Outcomes.{writes, writes_short}
-use Rattle.pages.specs.Pages.{check_over, check_page, max_slots, slots_of, name_in, pieces, keeps_layout, rises}
+use Rattle.pages.specs.Pages.{check_page, max_slots, slots_of, name_in, pieces, keeps_layout, rises}
+use Rattle.names.specs.Names.{limit}
+use Rattle.pages.proofs.Checked.{page_fails}
 use Rattle.pages.proofs.RoundTrip.{written_length}
 use Rattle.groups.specs.Groups.{grouped}
 use Rattle.groups.specs.Forms.{form_bytes, groups_in, slots_of_form, keeps_form}
@@ -31,21 +33,10 @@ use Rattle.groups.proofs.FormOutcomes.{form_flat, form_writes}
 abbrev group_tests : Bytes → List Test
 group_tests page = keeps_layout page else BadLayout ∷ rises page else NotRising ∷ []
 
-no_count : {A : Type 0} (r : Refusal) (n : ℕ) → ◌≡◌ {A = Answer} (Err r) (Ok n) → A
-no_count r n e = absurd (let z : ◌≡◌ {A = ℕ} 0 1 = cc in omega arith)
-
 module _ (page : Bytes) (room : ℕ) where
   pub group_refused : {r : Refusal} → check_page page ≡ Err r → group_outcome page room ≡ refuse r
-  unfolding check_over group_outcome
-  group_refused e =
-      failed refuse (write (form_pieces (slots_of page)) room) (group_tests page)
-      (refuses Err (Ok (length (slots_of page))) (λ r f. no_count r _ f) (λ q r f. cc) (group_tests page) e)
-
-  pub group_passes : {n : ℕ} → check_page page ≡ Ok n → (keeps_layout page ≡ true) × (rises page ≡ true)
-  unfolding check_over
-  group_passes {n} e =
-      let g = reached (λ (x : Answer). x ≡ Ok n) Err (Ok (length (slots_of page))) (λ r f. no_count r n f) (group_tests page) e in
-      (g.0.0, g.0.1.0)
+  unfolding group_outcome
+  group_refused e = failed refuse (write (form_pieces (slots_of page)) room) (group_tests page) (page_fails limit page [] e)
 
   module _ (e : keeps_layout page ≡ true) (f : rises page ≡ true) where
     goes_on_lem : group_outcome page room ≡ write (form_pieces (slots_of page)) room

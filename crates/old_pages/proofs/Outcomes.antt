@@ -1,5 +1,5 @@
 -- What a conversion comes to, case by case: the first refusal that applies, or the slots written. Assumes nothing.
-use mathlib.Core.Path.{◌≡◌, refl, ◌∙◌, sym, ap}
+use mathlib.Core.Path.{◌≡◌, refl, ◌∙◌, ap}
 use mathlib.Core.List.{List, [], ◌∷◌, map, flatten}
 use mathlib.Core.Bool.{true, false, ◌&&◌}
 use Prim.Native.Nat.{ℕ, ◌*◌, ◌/◌, ◌<◌, ◌≤◌}
@@ -12,40 +12,20 @@ use Rattle.numbers.specs.Bytes.{Bytes, Octets}
 use Rattle.std.specs.List.{list_all}
 use Rattle.numbers.proofs.Bools.{and_0, and_1}
 use Rattle.numbers.proofs.Parts.{length_parts}
-use Rattle.slots.specs.Slots.{size_over, slot_over, is_slot_over, Slot, slot_size, is_slot}
-use Rattle.pages.specs.Pages.{parts_over, slots_over, layout_over, rises_over, check_over, check_page, slots_of, name_in, names_of, pieces, keeps_layout, rises}
+use Rattle.slots.specs.Slots.{slot_over, is_slot_over, Slot, slot_size, is_slot}
+use Rattle.pages.specs.Pages.{parts_over, check_over, check_page, slots_of, name_in, names_of, pieces, keeps_layout, rises}
+use Rattle.pages.proofs.Checked.{page_fails}
 use Rattle.pages.proofs.RoundTrip.{slots_over_lem, written_over, page_slots, written_length}
-use Rattle.pages.proofs.SlotBySlot.{length_slots_over, length_slots}
+use Rattle.pages.proofs.SlotBySlot.{length_slots}
 use Rattle.std.specs.declared.result.Result.TheVariants.{Ok, Err}
 use Rattle.answers.specs.declared.Refusal.{Refusal}
-use Rattle.answers.specs.declared.Refusal.TheVariants.{BadLayout, NotRising, TooDeep, Short}
-use Rattle.answers.specs.Answers.{Answer, Test, ◌else◌, refuse, write}
-use Rattle.answers.specs.Laws.{FirstFails, here, later}
-use Rattle.answers.proofs.Refusals.{passed, failed, reached, refuses}
+use Rattle.answers.specs.declared.Refusal.TheVariants.{TooDeep, Short}
+use Rattle.answers.specs.Answers.{◌else◌, refuse, write}
+use Rattle.answers.specs.Laws.{here, later}
+use Rattle.answers.proofs.Refusals.{passed, failed}
 use Rattle.answers.proofs.Outcomes.{writes, writes_short}
 use Rattle.old_pages.specs.OldPages.{old_limit, old_size, keeps_old, old_rises, old_slots_of, old_pieces, fits_old, from_old_tests, to_old_tests, from_old_outcome, to_old_outcome}
 use Rattle.old_pages.proofs.ConvertedSlots.{length_new, length_old}
-
--- ── a page's check, for slots of either kind ──
-
-no_count : {A : Type 0} (r : Refusal) (n : ℕ) → ◌≡◌ {A = Answer} (Err r) (Ok n) → A
-no_count r n e = absurd (let z : ◌≡◌ {A = ℕ} 0 1 = cc in omega arith)
-
-module _ (room : ℕ) (s : Bytes) where
-  abbrev layout_tests : List Test
-  layout_tests = layout_over room s else BadLayout ∷ rises_over room s else NotRising ∷ []
-
-  pub counted : (n : ℕ) → check_over room s ≡ Ok n → (layout_over room s ≡ true) × (rises_over room s ≡ true) × (n ≡ length s / size_over room)
-  unfolding check_over
-  counted n e =
-      let all = length (slots_over room s) in
-      let g = reached (λ (x : Answer). x ≡ Ok n) Err (Ok all) (λ r f. no_count r n f) layout_tests e in
-      let is : all ≡ n = let f = g.1 in cc in
-      (g.0.0, g.0.1.0, sym is ∙ sym (length_slots_over room s))
-
-  pub turned_away : {r : Refusal} → check_over room s ≡ Err r → FirstFails r layout_tests
-  unfolding check_over
-  turned_away e = refuses Err (Ok (length (slots_over room s))) (λ q f. no_count q _ f) (λ q r f. cc) layout_tests e
 
 -- ── slots of either kind ──
 
@@ -77,7 +57,7 @@ module _ (old : Bytes) (room : ℕ) where
 
   pub from_refused : {r : Refusal} → check_over old_limit old ≡ Err r → from_old_outcome old room ≡ refuse r
   unfolding from_old_outcome
-  from_refused e = failed refuse (write new room) (from_old_tests old) (turned_away old_limit old e)
+  from_refused e = failed refuse (write new room) (from_old_tests old) (page_fails old_limit old [] e)
 
   module _ (k : Octets old) (e : keeps_old old ≡ true) (f : old_rises old ≡ true) where
     pub from_good : list_all is_slot (old_slots_of old) ≡ true
@@ -105,12 +85,7 @@ module _ (page : Bytes) (room : ℕ) where
 
   pub to_refused : {r : Refusal} → check_page page ≡ Err r → to_old_outcome page room ≡ refuse r
   unfolding to_old_outcome
-  to_refused e = failed refuse (write cut room) (to_old_tests page) (more (turned_away limit page e))
-    where
-      more : {r : Refusal} → FirstFails r (layout_tests limit page) → FirstFails r (to_old_tests page)
-      more (here p q) = here p q
-      more (later p (here q e)) = later p (here q e)
-      more (later p (later q x)) = elim x [ ]
+  to_refused e = failed refuse (write cut room) (to_old_tests page) (page_fails limit page (list_all fits_old (names_of page) else TooDeep ∷ []) e)
 
   pub to_too_deep : keeps_layout page ≡ true → rises page ≡ true → list_all fits_old (names_of page) ≡ false → to_old_outcome page room ≡ refuse TooDeep
   unfolding to_old_outcome

@@ -27,11 +27,10 @@ use Rattle.answers.specs.Laws.{Passed as AllPass}
 use Rattle.answers.proofs.Refusals.{passed, failed}
 use Rattle.pages.proofs.RoundTrip.{laid}
 use Rattle.numbers.proofs.Lists.{flat, flat_none}
-use Rattle.std.specs.declared.result.Result.{Result}
-use Rattle.std.specs.declared.result.Result.TheVariants.{Ok, Err}
+use Rattle.std.specs.declared.result.Result.TheVariants.{Ok}
 use Rattle.page_renames.specs.Renames.{carry, carried, all_fit, opening_tests, rename_tests, take_back_tests}
 use Rattle.page_renames.proofs.Books.{past, all_asked}
-use Rattle.answers.proofs.Checked.{all_pass, first_fails}
+use Rattle.answers.proofs.Checked.{Told, refuse_with, goes_on, all_pass, first_fails}
 
 -- results that fit fill a slot each
 bytes_long : (f : Row → Row) (l : List Slot) → list_all fits (map f (map name_in l)) ≡ true → length (flatten (pieces (carried f l))) ≡ slot_size * length l
@@ -44,16 +43,6 @@ bytes_long f (x ∷ l) t =
     let a = slot_length (carry f x) (leb-true (length (f x.name)) limit (and_0 this others t)) in
     let b = bytes_long f l (and_1 this others t) in
     ap length (flat bytes (pieces (carried f l))) ∙ length-append bytes rest ∙ omega arith
-
--- what a check answers that gives no number
-abbrev Told : Type 0
-Told = Result (Unit {0}) Refusal
-
-abbrev refuse_with : Refusal → Told
-refuse_with r = Err r
-
-abbrev goes_on : Told
-goes_on = Ok tt
 
 -- f is what becomes of a name, and where the call's own tests pass every result fits
 module _ (page log : Bytes) (author : Author) (own : List Test) (f : Row → Row) (fit : AllPass own → all_fit f page ≡ true) (room : ℕ) where

@@ -1,5 +1,4 @@
 pub mod Freshness
-pub mod Opening
 pub mod PageWalk
 pub mod Carried
 pub mod SlotBySlot

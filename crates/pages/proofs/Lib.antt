@@ -6,3 +6,4 @@ pub mod WrittenOctets
 pub mod PageOutcomes
 pub mod PageLaws
 pub mod Settled
+pub mod Checked

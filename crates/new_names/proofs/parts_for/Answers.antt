@@ -11,7 +11,10 @@ use Rattle.answers.specs.Laws.{here, later}
 use Rattle.answers.proofs.Refusals.{passed, failed}
 use Rattle.new_names.specs.FoundParts.{Means}
 use Rattle.new_names.specs.NewNames.{Named, refuse_name, gap_tests, new_name_outcome, new_name}
-use Rattle.new_names.proofs.GapTests.{counted, turned_away}
+use Rattle.new_names.proofs.GapTests.{turned_away}
+use Rattle.names.specs.Names.{limit}
+use Rattle.pages.proofs.Checked.{page_counts}
+use Rattle.pages.proofs.SlotBySlot.{length_slots}
 use Rattle.new_names.proofs.PartsOfNames.{given}
 use Rattle.new_names.proofs.parts_for.Goals as goal
 
@@ -23,7 +26,7 @@ returns-in_err-n c =
 pub returns-then-author-lt1 : goal.returns-then-author-lt1
 unfolding new_name_outcome
 returns-then-author-lt1 c =
-    let sound = counted c.args.page.now _ (sym c.check_page.ensures ∙ c.in_ok-n.was) in
+    let sound = page_counts limit c.args.page.now (sym c.check_page.ensures ∙ c.in_ok-n.was) in
     let node : leb 1 c.args.author.node ≡ false = lt-leb 1 c.args.author.node c.if-author-lt1.true in
     failed refuse_name _ (gap_tests c.args.page.now c.args.gap c.args.author) (later sound.0 (later sound.1 (here node refl)))
 
@@ -31,9 +34,9 @@ pub returns-then-n-gap : goal.returns-then-n-gap
 unfolding new_name_outcome
 returns-then-n-gap c =
     let page = c.args.page.now in
-    let sound = counted page _ (sym c.check_page.ensures ∙ c.in_ok-n.was) in
+    let sound = page_counts limit page (sym c.check_page.ensures ∙ c.in_ok-n.was) in
     let node : leb 1 c.args.author.node ≡ true = le-leb 1 c.args.author.node c.if-author-lt1.false in
-    let beyond : leb c.args.gap (length (slots_of page)) ≡ false = lt-leb c.args.gap (length (slots_of page)) (omega (arith, sound.2)) in
+    let beyond : leb c.args.gap (length (slots_of page)) ≡ false = lt-leb c.args.gap (length (slots_of page)) (omega (arith, sound.2, length_slots page)) in
     failed refuse_name _ (gap_tests page c.args.gap c.args.author) (later sound.0 (later sound.1 (later node (here beyond refl))))
 
 pub returns : goal.returns
@@ -41,9 +44,9 @@ unfolding new_name_outcome
 returns c =
     let page = c.args.page.now in
     let author = c.args.author in
-    let sound = counted page _ (sym c.check_page.ensures ∙ c.in_ok-n.was) in
+    let sound = page_counts limit page (sym c.check_page.ensures ∙ c.in_ok-n.was) in
     let node : leb 1 author.node ≡ true = le-leb 1 author.node c.if-author-lt1.false in
-    let inside : leb c.args.gap (length (slots_of page)) ≡ true = le-leb c.args.gap (length (slots_of page)) (omega (arith, sound.2)) in
+    let inside : leb c.args.gap (length (slots_of page)) ≡ true = le-leb c.args.gap (length (slots_of page)) (omega (arith, sound.2, length_slots page)) in
     let r = c.new_between.result in
     let w = given page r (λ i. new_name author (c.span_before-a.ensures.1 i) (c.span_of-b.ensures.1 i)) c.new_between.ensures in
     subst (λ (x : Named). Means page r x) (sym (passed refuse_name _ (gap_tests page c.args.gap author) (sound.0, (sound.1, (node, (inside, tt)))))) w

@@ -14,7 +14,8 @@ use Rattle.pages.specs.Pages.{name_in, names_of, parts_of, slots_of}
 use Rattle.answers.proofs.Outcomes.{refused, accepted}
 use Rattle.answers.specs.Answers.{leaves}
 use Rattle.old_pages.specs.OldPages.{fits_old, to_old_outcome}
-use Rattle.old_pages.proofs.Outcomes.{counted, to_refused, to_too_deep, to_short, to_done}
+use Rattle.pages.proofs.Checked.{page_counts}
+use Rattle.old_pages.proofs.Outcomes.{to_refused, to_too_deep, to_short, to_done}
 use Rattle.old_pages.proofs.to_old.Goals as goal
 
 -- the names' depths are those of the slots
@@ -32,13 +33,13 @@ returns-in_err-n-clause-out_after c =
 
 pub overflow_mul-n : goal.overflow_mul-n
 overflow_mul-n c =
-    let sound = counted limit c.args.page.now _ (sym c.check_page.ensures ∙ c.in_ok-n.was) in
+    let sound = page_counts limit c.args.page.now (sym c.check_page.ensures ∙ c.in_ok-n.was) in
     omega arith
 
 pub returns-then-not-depths_fit : goal.returns-then-not-depths_fit
 returns-then-not-depths_fit c =
     let page = c.args.page.now in
-    let sound = counted limit page _ (sym c.check_page.ensures ∙ c.in_ok-n.was) in
+    let sound = page_counts limit page (sym c.check_page.ensures ∙ c.in_ok-n.was) in
     let both : (_ ≡ (to_old_outcome page (length c.args.out.now)).answer) × (_ ≡ leaves (to_old_outcome page (length c.args.out.now)) c.args.out.now) =
     refused _ _ _ (to_too_deep page _ sound.0 sound.1 (over_names page ∙ sym c.depths_fit.ensures ∙ c.if-not-depths_fit.true))
     in record { value = both.0; out_after = both.1 }
@@ -46,7 +47,7 @@ returns-then-not-depths_fit c =
 pub returns-then-out-n : goal.returns-then-out-n
 returns-then-out-n c =
     let page = c.args.page.now in
-    let sound = counted limit page _ (sym c.check_page.ensures ∙ c.in_ok-n.was) in
+    let sound = page_counts limit page (sym c.check_page.ensures ∙ c.in_ok-n.was) in
     let octets : Octets page = λ i. omega (arith, c.type_inv.page i) in
     let shallow : list_all fits_old (names_of page) ≡ true = over_names page ∙ sym c.depths_fit.ensures ∙ c.if-not-depths_fit.false in
     let both : (_ ≡ (to_old_outcome page (length c.args.out.now)).answer) × (_ ≡ leaves (to_old_outcome page (length c.args.out.now)) c.args.out.now) =
@@ -56,13 +57,13 @@ returns-then-out-n c =
 pub write_old-requires : goal.write_old-requires
 write_old-requires c =
     let page = c.args.page.now in
-    let sound = counted limit page _ (sym c.check_page.ensures ∙ c.in_ok-n.was) in
+    let sound = page_counts limit page (sym c.check_page.ensures ∙ c.in_ok-n.was) in
     (sound.0, over_names page ∙ sym c.depths_fit.ensures ∙ c.if-not-depths_fit.false, omega arith)
 
 pub returns : goal.returns
 returns c =
     let page = c.args.page.now in
-    let sound = counted limit page _ (sym c.check_page.ensures ∙ c.in_ok-n.was) in
+    let sound = page_counts limit page (sym c.check_page.ensures ∙ c.in_ok-n.was) in
     let octets : Octets page = λ i. omega (arith, c.type_inv.page i) in
     let shallow : list_all fits_old (names_of page) ≡ true = over_names page ∙ sym c.depths_fit.ensures ∙ c.if-not-depths_fit.false in
     let both : (_ ≡ (to_old_outcome page (length c.args.out.now)).answer) × (_ ≡ leaves (to_old_outcome page (length c.args.out.now)) c.args.out.now) =
