@@ -1,5 +1,6 @@
 -- The change that an edit chooses is the right one: of a name within a group (`chosen_inside`) or after one, or before all (`chosen_after`), and of a
 -- name that the form has (`chosen_out`); and that the form has a name (`is_here_lem`, `is_present`). Assumes nothing.
+use Rattle.std.proofs.lemmas.List.Folds.{list_all-append}
 use mathlib.Core.Path.{◌≡◌, refl, ◌∙◌, sym, ap, subst}
 use mathlib.Core.Logic.{◌⊎◌, inl, inr}
 use mathlib.Core.List.{List, [], ◌∷◌, ◌++◌, map, append_assoc, append-nil}
@@ -20,7 +21,6 @@ use Rattle.names.proofs.Laws.{same_row}
 use Rattle.numbers.specs.Bytes.{Bytes, Octets, at32}
 use Rattle.std.specs.List.{list_all}
 use Rattle.numbers.proofs.Bools.{yes_no, and_0, and_1}
-use Rattle.numbers.proofs.Every.{every_append}
 use Rattle.slots.specs.declared.Span.{Span}
 use Rattle.slots.specs.Tuples.{tuple_size, row_at}
 use Rattle.slots.specs.Slots.{Slot, head_size, name_of, slot_of, line_of}
@@ -171,7 +171,7 @@ module _ (s slot : Bytes) (k : Octets s) (so : Octets slot) (name : Span) (e : E
     form_is = bytes ∙ ap form_bytes q
 
     all_groups : list_all is_group fs && list_all is_group (g ∷ hs) ≡ true
-    all_groups = sym (every_append is_group fs (g ∷ hs)) ∙ ap (list_all is_group) (sym q) ∙ groups
+    all_groups = sym (list_all-append is_group fs (g ∷ hs)) ∙ ap (list_all is_group) (sym q) ∙ groups
 
     groups_from : list_all is_group (g ∷ hs) ≡ true
     groups_from = and_1 (list_all is_group fs) (list_all is_group (g ∷ hs)) all_groups

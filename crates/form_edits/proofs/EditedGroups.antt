@@ -1,5 +1,6 @@
 -- The groups of a page with a slot more or less, by the groups before the name and those after it (`Cut`): `inserted_groups`, `removed_groups`; and
 -- where a name cuts the run of a group (`cut`). Assumes nothing.
+use Rattle.std.proofs.lemmas.List.Folds.{list_all-append}
 use mathlib.Core.Path.{◌≡◌, refl, ◌∙◌, sym, ap, subst}
 use mathlib.Core.List.{List, [], ◌∷◌, ◌++◌, map, append-nil}
 use mathlib.Core.Bool.{true, false, ◌&&◌}
@@ -10,7 +11,6 @@ use lib.ListN.{length}
 use Rattle.names.specs.Ordering.{Row, ◌<ⁿ◌, ◌≤ⁿ◌, Rising}
 use Rattle.std.specs.List.{list_all}
 use Rattle.numbers.proofs.Bools.{and_0, and_1}
-use Rattle.numbers.proofs.Every.{every_append}
 use Rattle.slots.specs.Slots.{Slot}
 use Rattle.pages.specs.Pages.{name_in}
 use Rattle.pages.specs.Places.{has}
@@ -85,7 +85,7 @@ pub record Stood (fs : List Group) (g : Group) (hs : List Group) : Type 0 where
 
 module _ {fs : List Group} {g : Group} {hs : List Group} (v : Stood fs g hs) where
   haves : list_all has_slot fs && list_all has_slot (g ∷ hs) ≡ true
-  haves = sym (every_append has_slot fs (g ∷ hs)) ∙ v.have
+  haves = sym (list_all-append has_slot fs (g ∷ hs)) ∙ v.have
 
   pub had_before : list_all has_slot fs ≡ true
   had_before = and_0 (list_all has_slot fs) (list_all has_slot (g ∷ hs)) haves
@@ -147,7 +147,7 @@ module _ {fs : List Group} {g : Group} {hs : List Group} (v : Stood fs g hs) whe
 
     pub cut : Cut x (fs ++ piece g.first l) (piece b r ++ hs)
     cut = record {
-      had = every_append has_slot fs (piece g.first l) ∙ (λ i. had_before i && (ap (list_all has_slot) (sym (append-nil (piece g.first l))) ∙ piece_has g.first l [] refl) i);
+      had = list_all-append has_slot fs (piece g.first l) ∙ (λ i. had_before i && (ap (list_all has_slot) (sym (append-nil (piece g.first l))) ∙ piece_has g.first l [] refl) i);
       have = piece_has b r hs have_after;
       long = pieces_before l;
       rest = pieces_after r ends;

@@ -1,6 +1,7 @@
 -- The groups of a form after an edit, case by case: a name within a run splits it (`inside`); after a group it goes on with it, or with the next, or
 -- both, or neither (`after`); a name of a run of several leaves what is before and after it (`leaves`), and the only one of its group closes
 -- the gap or not (`closes`, `vanishes`). Assumes nothing.
+use Rattle.std.proofs.lemmas.List.Folds.{list_all-append}
 use mathlib.Core.Path.{◌≡◌, refl, ◌∙◌, sym, ap, subst}
 use mathlib.Core.List.{List, [], ◌∷◌, ◌++◌, map, append_assoc, append-nil}
 use mathlib.Core.Bool.{Bool, true, false, cond, not, ◌&&◌}
@@ -20,7 +21,6 @@ use Rattle.names.specs.Names.{is_name}
 use Rattle.names.proofs.Laws.{<ⁿ_irrefl, ℕ_less, ℕ_more, less_row, more_row, same_row, row_less}
 use Rattle.std.specs.List.{list_all}
 use Rattle.numbers.proofs.Bools.{yes_no, never, and_0, and_1}
-use Rattle.numbers.proofs.Every.{every_append}
 use Rattle.slots.specs.Slots.{Slot}
 use Rattle.slots.proofs.RoundTrip.{name_long}
 use Rattle.pages.specs.Pages.{name_in}
@@ -267,7 +267,7 @@ module _ {fs : List Group} {g : Group} {hs : List Group} (v : Stood fs g hs) (na
         let u : Under g.first (ungrouped es ++ (run f.first f.lines ++ [])) = subst (Under g.first) (ap ungrouped q ∙ ungrouped_append es (f ∷ [])) (under_first v) in
         let w = subst (Under g.first) (append-nil (run f.first f.lines)) (under_rest (ungrouped es) (run f.first f.lines ++ []) u) in
         let k : list_all has_slot (es ++ (f ∷ [])) ≡ true = ap (list_all has_slot) (sym q) ∙ had_before v in
-        let n = leb-true 1 (size f) (and_0 (has_slot f) true (and_1 (list_all has_slot es) (has_slot f && true) (sym (every_append has_slot es (f ∷ [])) ∙ k))) in
+        let n = leb-true 1 (size f) (and_0 (has_slot f) true (and_1 (list_all has_slot es) (has_slot f && true) (sym (list_all-append has_slot es (f ∷ [])) ∙ k))) in
         no_loop f g.first n w z)
 
     abbrev both : List Group → List Group → Type 0

@@ -1,6 +1,7 @@
 -- What the test of a group has found (`good`), of groups (`have_slots`, `slots_good`), and what it asks of the groups of slots
 -- (`groups_good`): so slots that a page may have give groups (`are_groups`), and such groups that are longest are those of their slots
 -- (`groups_back`). Assumes nothing.
+use Rattle.std.proofs.lemmas.List.Folds.{list_all-append}
 use mathlib.Core.Path.{◌≡◌, refl, sym, ap, ◌∙◌}
 use mathlib.Core.List.{List, [], ◌∷◌}
 use mathlib.Core.Bool.{Bool, true, false, cond, ◌&&◌}
@@ -11,7 +12,6 @@ use lib.Dec.{leb}
 use lib.ListN.{length, length-append}
 use Rattle.std.specs.List.{list_all}
 use Rattle.numbers.proofs.Bools.{and_0, and_1}
-use Rattle.numbers.proofs.Every.{every_append}
 use Rattle.slots.specs.Slots.{Slot, is_slot}
 use Rattle.pages.specs.Pages.{max_slots}
 use Rattle.runs.specs.Runs.{is_next}
@@ -52,7 +52,7 @@ have_slots (g ∷ gs) e =
 pub slots_good : (gs : List Group) → list_all is_group gs ≡ true → list_all is_slot (ungrouped gs) ≡ true
 slots_good [] e = refl
 slots_good (g ∷ gs) e =
-    every_append is_slot (slots_in g) (ungrouped gs)
+    list_all-append is_slot (slots_in g) (ungrouped gs)
     ∙ (λ i. (good g (and_0 (is_group g) (list_all is_group gs) e)).slots i && slots_good gs (and_1 (is_group g) (list_all is_group gs) e) i)
 
 -- groups with a slot each, whose slots a page may have
@@ -60,7 +60,7 @@ pub groups_good : (gs : List Group) → list_all has_slot gs ≡ true → list_a
     → list_all is_group gs ≡ true
 groups_good [] v e h = refl
 groups_good (g ∷ gs) v e h =
-    let f = sym (every_append is_slot (slots_in g) (ungrouped gs)) ∙ e in
+    let f = sym (list_all-append is_slot (slots_in g) (ungrouped gs)) ∙ e in
     let l = length-append (slots_in g) (ungrouped gs) in
     let r = run_length g.first g.lines in
     let here : Good g = record {

@@ -1,4 +1,5 @@
 -- The digits of a number: how they come one after the other, how many they are, and what they read back as. Assumes nothing.
+use Rattle.std.proofs.lemmas.List.Folds.{list_all-append}
 use mathlib.Core.Path.{◌≡◌, refl, ◌∙◌, sym, ap}
 use mathlib.Core.List.{[], ◌∷◌, ◌++◌}
 use mathlib.Core.Bool.{Bool, true}
@@ -11,7 +12,6 @@ use lib.ListN.{length, get_or, length-append, get_or-append}
 use Rattle.names.specs.Names.{within}
 use Rattle.numbers.specs.Bytes.{Bytes}
 use Rattle.std.specs.List.{list_all}
-use Rattle.numbers.proofs.Every.{every_append}
 use Rattle.listing_text.specs.Listing.{digits, decimal}
 
 -- the last digit
@@ -150,4 +150,4 @@ pub all_digits : (n : ℕ) → list_all is_digit (decimal n) ≡ true
 all_digits =
     by_digits (λ n. list_all is_digit (decimal n) ≡ true)
     (λ n h. rw (decimal_one n h, last_digit n))
-    (λ n h v. ap (list_all is_digit) (decimal_more n h) ∙ every_append is_digit (decimal (n / 10)) (last n ∷ []) ∙ rw (v, last_digit n))
+    (λ n h v. ap (list_all is_digit) (decimal_more n h) ∙ list_all-append is_digit (decimal (n / 10)) (last n ∷ []) ∙ rw (v, last_digit n))

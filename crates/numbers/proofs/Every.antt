@@ -1,32 +1,29 @@
 -- A test of every element of a list. Assumes nothing.
-use mathlib.Core.Path.{◌≡◌, refl, ◌∙◌, sym, ap}
-use mathlib.Core.List.{List, [], ◌∷◌, ◌++◌, map}
-use mathlib.Core.Bool.{Bool, true, false, ◌&&◌, and-false, and_assoc}
+use mathlib.Core.Path.{◌≡◌, ◌∙◌, sym, ap}
+use mathlib.Core.List.{List, [], ◌∷◌}
+use mathlib.Core.Bool.{Bool, true, false, ◌&&◌, and-false}
 use Prim.Native.Nat.{ℕ, zero, suc, ◌+◌, ◌<◌, ◌≤◌}
 use native.Mathlib.Nat.{not-suc-le-zero, le_of_suc-le-suc}
 use native.Mathlib.Numerals.{add-one}
 use lib.ListN.{length, get_or, take, drop, take-append-drop, drop_of_length-le}
 use lib.Seq.{drop-cons, drop-drop, take-add}
 use Rattle.std.specs.List.{list_all}
+use Rattle.std.proofs.lemmas.List.Folds.{list_all-append}
 use Rattle.numbers.proofs.Bools.{and_0, and_1}
 
 module _ {A : Type 0} (f : A → Bool) where
-  pub every_append : (xs ys : List A) → list_all f (xs ++ ys) ≡ list_all f xs && list_all f ys
-  every_append [] ys = refl
-  every_append (x ∷ xs) ys = ap (λ (b : Bool). f x && b) (every_append xs ys) ∙ sym (and_assoc (f x) (list_all f xs) (list_all f ys))
-
   -- a row from p on: n elements, and the rest
   pub every_rest : (s : List A) (p n : ℕ) → list_all f (take n (drop p s)) && list_all f (drop (p + n) s) ≡ list_all f (drop p s)
   every_rest s p n =
       ap (λ (l : List A). list_all f (take n (drop p s)) && list_all f l) (sym (drop-drop n p s))
-      ∙ sym (every_append (take n (drop p s)) (drop n (drop p s)))
+      ∙ sym (list_all-append f (take n (drop p s)) (drop n (drop p s)))
       ∙ ap (list_all f) (take-append-drop n (drop p s))
 
   -- m + n elements from p on
   pub every_split : (s : List A) (p m n : ℕ) → list_all f (take (m + n) (drop p s)) ≡ list_all f (take m (drop p s)) && list_all f (take n (drop (p + m) s))
   every_split s p m n =
       ap (list_all f) (take-add m n (drop p s))
-      ∙ every_append (take m (drop p s)) (take n (drop m (drop p s)))
+      ∙ list_all-append f (take m (drop p s)) (take n (drop m (drop p s)))
       ∙ ap (λ (l : List A). list_all f (take m (drop p s)) && list_all f (take n l)) (drop-drop m p s)
 
   -- where a later part fails the whole does
@@ -45,7 +42,3 @@ module _ {A : Type 0} (f : A → Bool) where
 
   pub every_end : (l : List A) (i : ℕ) → length l ≤ i → true ≡ list_all f (drop i l)
   every_end l i h = rw (drop_of_length-le l h)
-
-pub every_map : {A B : Type 0} (f : B → Bool) (g : A → B) (l : List A) → list_all f (map g l) ≡ list_all (λ x. f (g x)) l
-every_map f g [] = refl
-every_map f g (x ∷ l) = ap (λ (b : Bool). f (g x) && b) (every_map f g l)

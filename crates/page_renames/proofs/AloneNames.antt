@@ -1,5 +1,6 @@
 -- A page of which every name is taken back alone (name_renames/specs/Alone.antt: `alone`): neither 6 nor 7 is met (`alone_passes`), and each name of
 -- it is alone (`alone_at_lem`). Assumes nothing.
+use Rattle.std.proofs.lemmas.List.Folds.{list_all-map}
 use mathlib.Core.Path.{◌≡◌, refl, ◌∙◌}
 use mathlib.Core.List.{List, [], ◌∷◌, map}
 use mathlib.Core.Bool.{true, ◌&&◌}
@@ -14,7 +15,7 @@ use Rattle.names.proofs.Laws.{rising_Rising, Rising_rising}
 use Rattle.numbers.specs.Bytes.{Bytes}
 use Rattle.std.specs.List.{list_all}
 use Rattle.numbers.proofs.Bools.{and_0, and_1}
-use Rattle.numbers.proofs.Every.{every_each, every_map}
+use Rattle.numbers.proofs.Every.{every_each}
 use Rattle.slots.specs.Tuples.{tuples_at}
 use Rattle.slots.specs.Slots.{head_size, slot_size, depth_of, name_of, slot_of}
 use Rattle.slots.proofs.TuplesInBytes.{length_tuples_at}
@@ -59,7 +60,7 @@ module _ (page log : Bytes) (author : Author) where
         λ i. h i && t i
 
     fit : all_fit back page ≡ true
-    fit = every_map fits back (names_of page) ∙ each_fits (names_of page) a (names_fit page)
+    fit = list_all-map fits back (names_of page) ∙ each_fits (names_of page) a (names_fit page)
 
     rise : rising (map back (names_of page)) ≡ true
     rise =

@@ -1,5 +1,6 @@
 -- A page and a log with no end marker where names could meet and no name so deep that it could come to have too many tuples: neither 6 nor 7 is met
 -- (`clear_passes`). Assumes nothing.
+use Rattle.std.proofs.lemmas.List.Folds.{list_all-map}
 use mathlib.Core.Path.{◌≡◌, refl, ◌∙◌}
 use mathlib.Core.List.{List, [], ◌∷◌, map}
 use mathlib.Core.Bool.{Bool, true, ◌&&◌}
@@ -15,7 +16,6 @@ use Rattle.names.proofs.Validity.{Valid}
 use Rattle.numbers.specs.Bytes.{Bytes}
 use Rattle.std.specs.List.{list_all}
 use Rattle.numbers.proofs.Bools.{and_0, and_1}
-use Rattle.numbers.proofs.Every.{every_map}
 use Rattle.pages.specs.Pages.{names_of}
 use Rattle.pages.proofs.RoundTrip.{page_names}
 use Rattle.answers.specs.Laws.{Passed}
@@ -70,7 +70,7 @@ module _ (page log : Bytes) (author : Author) (v : Asked page log author) where
     free = and_0 (log_free && page_clear) short e
 
     fit : all_fit back page ≡ true
-    fit = every_map fits back (names_of page) ∙ each_fits (names_of page) (leb-true _ limit (and_1 (log_free && page_clear) short e))
+    fit = list_all-map fits back (names_of page) ∙ each_fits (names_of page) (leb-true _ limit (and_1 (log_free && page_clear) short e))
 
     kept : (c d : Row) → Passes clear c → Passes clear d → c <ⁿ d → back c <ⁿ back d
     kept c d i j l =

@@ -1,10 +1,10 @@
 -- The rule of a name, tuple by tuple where they stand: the tuples before the last are such as a name begins with, and the last is one
 -- (`name_by`). What is known of its first tuples (`leads_fewer`, `leads_at`, `leads_not`, `leads_name`), and the name of a slot. Assumes nothing.
+use Rattle.std.proofs.lemmas.List.Folds.{list_all-append}
 use Rattle.std.proofs.Common.{◌≡◌, ℕ, zero, suc, ◌+◌, ◌-◌, ◌*◌, ◌≤◌, min, Bool, true, false, ◌&&◌, ◌||◌, ltb, [], ◌∷◌, take, pos, sym, refl, ap, ◌∙◌, le_of_suc-le-suc, not-suc-le-zero, arith, lt-ltb}
 use mathlib.Core.Bool.{and_assoc, and-true}
 use Rattle.names.specs.Names.{limit, ordinary, ordinary_from, marker, ends_well, is_name}
 use Rattle.std.specs.List.{list_all}
-use Rattle.numbers.proofs.Every.{every_append}
 use Rattle.numbers.proofs.Bools.{and_0, and_1}
 use Rattle.numbers.proofs.Lists.{take_min}
 use Rattle.numbers.specs.Bytes.{Bytes, at32}
@@ -97,7 +97,7 @@ module _ (s : Bytes) where
       ∙ sym (and-true (inner t))
       ∙ (λ j. sym h j && (inner t && true))
       ∙ and_assoc o (list_all inner a) (inner t && true)
-      ∙ ap (λ (c : Bool). o && c) (sym (every_append inner a (t ∷ [])))
+      ∙ ap (λ (c : Bool). o && c) (sym (list_all-append inner a (t ∷ [])))
       ∙ ap leads (more_tuples_at s p (suc i))
 
   -- where i tuples begin no name, no more of them do
