@@ -108,10 +108,10 @@ static inline uint32_t kadalumbir_count_of(uint64_t result)
 
 /* ---- checks: the count is that of the slots or entries that stand there; nothing is written */
 
-/* Refuses 1, 2. Stack: 120 bytes. */
+/* Refuses 1, 2. Stack: 140 bytes. */
 uint64_t kadalumbir_check_page(const uint8_t *page, size_t page_len);
 
-/* Refuses 3. Stack: 140 bytes. */
+/* Refuses 3. Stack: 150 bytes. */
 uint64_t kadalumbir_check_log(const uint8_t *log, size_t log_len);
 
 /* Refuses 13. Stack: 50 bytes. */
@@ -120,19 +120,19 @@ uint64_t kadalumbir_check_epochs(const uint8_t *table, size_t table_len);
 /* ---- lines: the count is that of the page's slots in `out` */
 
 /* Writes the page with the given slot, which is exactly one slot long, at its rising place.
- * Refuses 1 (page), 1 (slot), 2, 9, 11, 8. Stack: 200 bytes. */
+ * Refuses 1 (page), 1 (slot), 2, 9, 11, 8. Stack: 220 bytes. */
 uint64_t kadalumbir_insert(const uint8_t *page, size_t page_len, const uint8_t *slot, size_t slot_len, uint8_t *out,
                            size_t out_len);
 
 /* Writes the page without the slot that has the given slot's name; the given line number is ignored.
- * Refuses 1 (page), 1 (slot), 2, 10, 8. Stack: 200 bytes. */
+ * Refuses 1 (page), 1 (slot), 2, 10, 8. Stack: 220 bytes. */
 uint64_t kadalumbir_remove(const uint8_t *page, size_t page_len, const uint8_t *slot, size_t slot_len, uint8_t *out,
                            size_t out_len);
 
 /* Writes one slot with line number 0 and a new name for the gap before slot `gap`, or after the last where `gap` is the
  * number of slots. The author's (node, sequence) is taken as given: that it was never used before, which keeps two
  * units' names apart, is the caller's affair. The count is 0, though a slot is written.
- * Refuses 1, 2, 4, 16, 12, 6, 8. Stack: 570 bytes. */
+ * Refuses 1, 2, 4, 16, 12, 6, 8. Stack: 580 bytes. */
 uint64_t kadalumbir_new_name(const uint8_t *page, size_t page_len, size_t gap, uint16_t node, uint32_t sequence,
                              uint8_t *out, size_t out_len);
 
@@ -140,22 +140,22 @@ uint64_t kadalumbir_new_name(const uint8_t *page, size_t page_len, size_t gap, u
 
 /* Writes the page as the rename of the log by the author (node, sequence) makes it: the log's k-th name becomes one
  * tuple with offset k, and other names change so that the order stays. A name gains at most one tuple.
- * Refuses 1, 2, 3, 4, 5, 6, 8. Stack: 260 bytes. */
+ * Refuses 1, 2, 3, 4, 5, 6, 8. Stack: 280 bytes. */
 uint64_t kadalumbir_rename(const uint8_t *page, size_t page_len, const uint8_t *log, size_t log_len, uint16_t node,
                            uint32_t sequence, uint8_t *out, size_t out_len);
 
 /* Writes the page, which has names of after that rename, with the names of before it.
- * Refuses 1, 2, 3, 4, 6, 7, 8. Stack: 500 bytes. */
+ * Refuses 1, 2, 3, 4, 6, 7, 8. Stack: 540 bytes. */
 uint64_t kadalumbir_take_back(const uint8_t *page, size_t page_len, const uint8_t *log, size_t log_len, uint16_t node,
                               uint32_t sequence, uint8_t *out, size_t out_len);
 
 /* ---- old pages: the count is that of the slots, which keep their order, their names and their line numbers in `out` */
 
-/* Writes the old page as a page. Refuses 1, 2, 8. Stack: 150 bytes. */
+/* Writes the old page as a page. Refuses 1, 2, 8. Stack: 180 bytes. */
 uint64_t kadalumbir_from_old(const uint8_t *old, size_t old_len, uint8_t *out, size_t out_len);
 
 /* Writes the page as an old page, where every name has at most 8 tuples.
- * Refuses 1, 2, 6, 8. Stack: 150 bytes. */
+ * Refuses 1, 2, 6, 8. Stack: 180 bytes. */
 uint64_t kadalumbir_to_old(const uint8_t *page, size_t page_len, uint8_t *out, size_t out_len);
 
 /* ---- epochs: each entry of the table but the first is the rename of its node and sequence. Epochs compare by their paths
@@ -167,14 +167,14 @@ enum { KADALUMBIR_STAY = 0, KADALUMBIR_UP = 1, KADALUMBIR_DOWN = 2 };
 /* Sets the next step from entry `current` to the target, the greatest epoch, where all units go: stay there, up to the
  * parent (take that rename back), or down to a child (rename), and the index of the parent or child; the index is 0 for
  * stay. Following it comes to the target after at most 31 steps. The count is 0.
- * Refuses 13, 14. Stack: 410 bytes. */
+ * Refuses 13, 14. Stack: 80 bytes. */
 uint64_t kadalumbir_next_step(const uint8_t *table, size_t table_len, size_t current, uint8_t *step, uint32_t *index);
 
 /* Writes the table with one more entry, of (node, sequence) under entry `parent`. `count` is the number of names in the
  * rename's own log, 1..256: log_len / KADALUMBIR_SLOT_BYTES, or what kadalumbir_read_message counted in the rename's
  * message. It is the same on every unit; a unit that gave another number would choose another target, and end apart. The
  * count that comes back is that of the table's entries.
- * Refuses 13 (table), 14, 4, 13 (`count`), 17, 18, 8. Stack: 130 bytes. */
+ * Refuses 13 (table), 14, 4, 13 (`count`), 17, 18, 8. Stack: 120 bytes. */
 uint64_t kadalumbir_add_epoch(const uint8_t *table, size_t table_len, size_t parent, uint16_t node, uint32_t sequence,
                               uint16_t count, uint8_t *out, size_t out_len);
 
@@ -185,14 +185,14 @@ enum { KADALUMBIR_INSERT = 1, KADALUMBIR_REMOVE = 2, KADALUMBIR_RENAME = 3 };
 /* Writes the message of these parts; the names are slots with line number 0. The count is that of its bytes.
  * Refuses 15 (any parts that reading cannot give: a bad kind, epoch, author or name, a wrong number of names, names of a
  * rename not rising, a slot's line number other than 0, a line number other than 0 where the kind is not insert), 8.
- * Stack: 180 bytes. */
+ * Stack: 220 bytes. */
 uint64_t kadalumbir_write_message(uint8_t kind, uint16_t epoch_node, uint32_t epoch_sequence, uint16_t author_node,
                                   uint32_t author_sequence, uint32_t line, const uint8_t *names, size_t names_len,
                                   uint8_t *out, size_t out_len);
 
 /* Sets kind, epoch, author and line number (0 unless insert), and writes the names, in slots with line number 0. The count
  * is that of the slots. A message has one writing, so that writing what was read gives the same bytes.
- * Refuses 15, 8. Stack: 160 bytes. */
+ * Refuses 15, 8. Stack: 200 bytes. */
 uint64_t kadalumbir_read_message(const uint8_t *message, size_t message_len, uint8_t *kind, uint16_t *epoch_node,
                                  uint32_t *epoch_sequence, uint16_t *author_node, uint32_t *author_sequence,
                                  uint32_t *line, uint8_t *out, size_t out_len);
@@ -205,23 +205,23 @@ uint64_t kadalumbir_read_message(const uint8_t *message, size_t message_len, uin
  * not rise strictly, and 11 where there are more than 256 slots. */
 
 /* Writes the page's form. The count is that of its bytes.
- * Refuses 1, 2, 8. Stack: 200 bytes. */
+ * Refuses 1, 2, 8. Stack: 220 bytes. */
 uint64_t kadalumbir_group(const uint8_t *page, size_t page_len, uint8_t *out, size_t out_len);
 
 /* Writes the page of the form. The count is that of its slots. Grouping it again gives the same bytes, and so does
  * ungrouping what was grouped.
- * Refuses 15, 2, 11, 8. Stack: 350 bytes. */
+ * Refuses 15, 2, 11, 8. Stack: 400 bytes. */
 uint64_t kadalumbir_ungroup(const uint8_t *form, size_t form_len, uint8_t *out, size_t out_len);
 
 /* Writes the form of the page with the given slot, which is exactly one slot long, at its rising place: what grouping what
  * kadalumbir_insert writes would give. The count is that of the form's bytes.
- * Refuses 15, 2, 11 (more than 256 slots), 1 (slot), 9, 11 (256 slots), 8. Stack: 410 bytes. */
+ * Refuses 15, 2, 11 (more than 256 slots), 1 (slot), 9, 11 (256 slots), 8. Stack: 430 bytes. */
 uint64_t kadalumbir_group_insert(const uint8_t *form, size_t form_len, const uint8_t *slot, size_t slot_len, uint8_t *out,
                                  size_t out_len);
 
 /* Writes the form of the page without the slot that has the given slot's name; the given line number is ignored. The count
  * is that of the form's bytes.
- * Refuses 15, 2, 11, 1 (slot), 10, 8. Stack: 380 bytes. */
+ * Refuses 15, 2, 11, 1 (slot), 10, 8. Stack: 410 bytes. */
 uint64_t kadalumbir_group_remove(const uint8_t *form, size_t form_len, const uint8_t *slot, size_t slot_len, uint8_t *out,
                                  size_t out_len);
 

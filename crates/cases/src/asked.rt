@@ -2,13 +2,14 @@
 ghost use Rattle.std.specs.Prelude.{◌≡◌, true};
 ghost use Rattle.pages.specs.Pages.{is_log};
 
-use crate::line::{NAMES, Words, author, name, number, put_names};
+use crate::line::{NAMES, author, name, number, put_names};
 use answers::{Answer, Refusal};
 use listing_text::TEXT;
 use names::{Author, Name, Tuple};
 use pages::PAGE;
 use slots::SLOT;
 use std::io;
+use std::slice::Iter;
 
 // The line number of the slots.
 const LINE: u32 = 7;
@@ -30,17 +31,17 @@ fn show(rt: &impl Print, page: &[u8]) -> io::Result<()> {
 
 // ── renames ──
 
-// The page of the names that the words say, after the author, renamed or taken back.
+// The page of the names that come after the author, renamed or taken back.
 fn page_case<F: Fn(&[u8], Author, &mut [u8]) -> Answer>(
     rt: &impl Print,
-    mut words: Words,
+    mut bytes: Iter<u8>,
     call: F,
 ) -> io::Result<()>
     requires { F.IsAlwaysCallable call }
 {
-    let by = author(&mut words);
+    let by = author(&mut bytes);
     let mut page = [0u8; NAMES * SLOT];
-    let size = SLOT * put_names(&mut page, LINE, words);
+    let size = SLOT * put_names(&mut page, LINE, &mut bytes);
     let mut out = [0u8; NAMES * SLOT];
     let a = call(&page[..size], by, &mut out);
     say_answer(rt, a)?;
@@ -53,17 +54,18 @@ fn page_case<F: Fn(&[u8], Author, &mut [u8]) -> Answer>(
 // One name by value; 6 where what it becomes has more than sixteen tuples.
 fn name_case<F: Fn(Author, Name) -> Option<Name>>(
     rt: &impl Print,
-    mut words: Words,
+    mut bytes: Iter<u8>,
     call: F,
 ) -> io::Result<()>
     requires { F.IsAlwaysCallable call }
 {
-    let by = author(&mut words);
-    let Some(name) = call(by, name(words.next().unwrap_or(""))) else {
+    let by = author(&mut bytes);
+    let (x, _) = name(&mut bytes);
+    let Some(x) = call(by, x) else {
         return say_answer(rt, Err(Refusal::TooDeep));
     };
     let mut slot = [0u8; SLOT];
-    slots::write_slot(&mut slot, 0, LINE, name);
+    slots::write_slot(&mut slot, 0, LINE, x);
     say_answer(rt, Ok(1))?;
     show(rt, &slot)
 }
@@ -79,13 +81,14 @@ fn counted(k: u32) -> Name {
     })
 }
 
-fn insert_case(rt: &impl Print, mut words: Words) -> io::Result<()> {
+fn insert_case(rt: &impl Print, mut bytes: Iter<u8>) -> io::Result<()> {
     let mut page = [0u8; PAGE];
     for (k, slot) in page.chunks_exact_mut(SLOT).enumerate() {
         slots::write_slot(slot, 0, LINE, counted(k as u32));
     }
     let mut slot = [0u8; SLOT];
-    slots::write_slot(&mut slot, 0, LINE, counted(number(words.next())));
+    let (k, _) = number(&mut bytes);
+    slots::write_slot(&mut slot, 0, LINE, counted(k));
     let mut out = [0u8; PAGE];
     say_answer(rt, edits::insert(&page, &slot, &mut out))
 }
@@ -106,8 +109,9 @@ const DRAWER: [u8; 50] =
 const LEVEL: [u8; 50] =
     *b"\0\0\0\0\0\0\0\0\0\0\0\x02\0\0\0\x29\0\0\0\x03\0\x01\0\0\0\x39\0\x01\0\x03\0\x03\0\0\0\x3f\0\x02\0\x03\x03\x84\0\0\0\x05\0\0\0\x03";
 
-fn step_case(rt: &impl Print, mut words: Words, table: &[u8]) -> io::Result<()> {
-    let next = epochs::next_step(table, number(words.next()));
+fn step_case(rt: &impl Print, mut bytes: Iter<u8>, table: &[u8]) -> io::Result<()> {
+    let (k, _) = number(&mut bytes);
+    let next = epochs::next_step(table, k as usize);
     say(
         rt,
         u32::from(epochs::step_number(next)),
@@ -117,44 +121,46 @@ fn step_case(rt: &impl Print, mut words: Words, table: &[u8]) -> io::Result<()> 
 
 // ── lines ──
 
-// A line: it is written, and what it asks for is done.
-fn run(rt: &impl Print, line: &str, log: &[u8]) -> io::Result<()>
+// A line: it is written, and what it asks for is done. A word ends before a space or a byte below it, and what it asks for stands after that.
+fn run(rt: &impl Print, line: &[u8], log: &[u8]) -> io::Result<()>
     requires { is_log log.now ≡ true }
 {
-    print!(rt; "{line}")?;
-    let mut words = line.split(' ');
-    match words.next() {
-        Some("rename") => page_case(
+    rt.write_all(line)?;
+    let mut parts = line.splitn(2, |b| *b <= b' ');
+    let word = parts.next();
+    let bytes = parts.next().unwrap_or(b"").iter();
+    match word {
+        Some(b"rename") => page_case(
             rt,
-            words,
+            bytes,
             |page, by, out| page_renames::rename(page, log, by, out),
         ),
-        Some("back") => page_case(
+        Some(b"back") => page_case(
             rt,
-            words,
+            bytes,
             |page, by, out| page_renames::take_back(page, log, by, out),
         ),
-        Some("rename-name") => name_case(rt, words, |by, x| one_name::rename_name(log, by, x)),
-        Some("back-name") => name_case(rt, words, |by, x| one_name::take_back_name(log, by, x)),
-        Some("insert") => insert_case(rt, words),
-        Some("step") => step_case(rt, words, &EPOCHS),
-        Some("spare") => step_case(rt, words, &DRAWER),
-        Some("level") => step_case(rt, words, &LEVEL),
+        Some(b"rename-name") => name_case(rt, bytes, |by, x| one_name::rename_name(log, by, x)),
+        Some(b"back-name") => name_case(rt, bytes, |by, x| one_name::take_back_name(log, by, x)),
+        Some(b"insert") => insert_case(rt, bytes),
+        Some(b"step") => step_case(rt, bytes, &EPOCHS),
+        Some(b"spare") => step_case(rt, bytes, &DRAWER),
+        Some(b"level") => step_case(rt, bytes, &LEVEL),
         _ => println!(rt),
     }
 }
 
 // "Log L: r0 = (9,2,0,0), r1 = (9,2,0,0)(6,1,0,0), r2 = (9,2,0,1)"
-const L: &str = "9.2.0.0 9.2.0.0/6.1.0.0 9.2.0.1";
+const L: &[u8] = b"9.2.0.0 9.2.0.0/6.1.0.0 9.2.0.1";
 
 // The lines of a text, with log L.
-pub(crate) fn run_text(rt: &impl Print, text: &str) -> io::Result<()> {
+pub(crate) fn run_text(rt: &impl Print, text: &[u8]) -> io::Result<()> {
     let mut log = [0u8; NAMES * SLOT];
-    put_names(&mut log, 0, L.split(' '));
+    put_names(&mut log, 0, &mut L.iter());
     // What takes one name by value asks for a log that was checked.
     if pages::log_ok(&log) {
-        for line in text.lines() {
-            run(rt, line, &log)?;
+        for line in text.split_inclusive(|b| *b == b'\n') {
+            run(rt, line.strip_suffix(b"\n").unwrap_or(line), &log)?;
         }
     }
     Ok(())

@@ -19,13 +19,10 @@
 mod asked;
 mod line;
 
-use std::{io, str};
+use std::io;
 
 fn main(rt: HostRuntime) -> io::Result<()> {
     let mut text = [0u8; 4096];
     let n = inputs::read_full(&mut rt.stdin(), &mut text)?;
-    match str::from_utf8(&text[..n]) {
-        Ok(lines) => asked::run_text(&rt, lines),
-        Err(_) => Err(io::Error::from(io::ErrorKind::InvalidData)),
-    }
+    asked::run_text(&rt, &text[..n])
 }
