@@ -91,7 +91,7 @@ pub fn insert(page: &[u8], slot: &[u8], out: &mut [u8]) -> Answer
     }
 }
 
-// 1, 1, 2, 10, 8; else the page without the slot of that name.
+// 1 (page), 1 (slot), 2, 10, 8; else the page without the slot of that name.
 pub fn remove(page: &[u8], slot: &[u8], out: &mut [u8]) -> Answer
     ensures value { result ≡ (remove_outcome page.now slot.now (length out.old)).answer }
     ensures out_after { out.new ≡ leaves (remove_outcome page.now slot.now (length out.old)) out.old }

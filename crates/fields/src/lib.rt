@@ -14,7 +14,7 @@ const SIZE: usize = 1;
 
 // ── reading ──
 
-// A place in some bytes. What stands there is said of the bytes from there on.
+// A place in some bytes. The clauses speak of the bytes from there on.
 #[derive(Clone, Copy, Debug, PartialEq, Eq)]
 pub struct Cursor {
     pub at: usize,

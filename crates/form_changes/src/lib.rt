@@ -14,7 +14,7 @@ ghost use Rattle.groups.specs.Forms.{group_head};
 ghost use Rattle.form_changes.specs.Changes.{head_in, front, back, given, changed, Headed, Fits, Given};
 
 use answers::{Answer, Refusal};
-use groups::{AFTER_NAME, GROUP, LINE, SLOT_LINE};
+use groups::{AFTER_NAME, GROUP, LINE};
 use slots::{Span, TUPLE};
 
 // What stands before the line numbers of a group: its first name, which comes `onward` after the one at `name`, and how many slots it has. Without slots
@@ -89,7 +89,7 @@ fn write_given(out: &mut [u8], p: usize, slot: &[u8], head: Head) -> usize
     ensures out_after { out.new ≡ put out.old p (given slot.now head) }
 {
     let line = write_head(out, p, slot, head);
-    numbers::write_u32(out, line, numbers::read_u32(slot, SLOT_LINE));
+    numbers::write_u32(out, line, numbers::read_u32(slot, slots::LINE));
     line + LINE
 }
 

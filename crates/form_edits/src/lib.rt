@@ -42,7 +42,7 @@ fn name_in(slot: &[u8]) -> Span
     Span { at: HEAD, count }
 }
 
-// The group at a place, or none: a group of no slots, and no Option, since whoever asks for it asks for its slots.
+// The group at a place, or none: a group of no slots, and no Option, as `forms::no_block` says.
 fn block_by(form: &[u8], found: bool, at: usize) -> Block
     requires { found ≡ true → (at ≤ length form.now) × (group_stands (drop at form.now) ≡ true) }
     ensures value { result ≡ block_by form.now found at }
@@ -92,7 +92,7 @@ fn met_after(steps: usize, count: usize, ends: bool) -> Met
     }
 }
 
-// Where there is no group the name goes on with none.
+// Without a group the name is after none, and goes on with no run.
 fn meet(form: &[u8], block: Block, slot: &[u8], name: Span) -> Met
     requires within { Within form.now block.name × Lies slot.now name × (is_name (row_at slot.now name) ≡ true) }
     requires name_value { 1 ≤ block.name.count → (is_name (row_at form.now block.name) ≡ true) × (is_le (compare_rows (row_at form.now block.name) (row_at slot.now name)) ≡ true) }

@@ -33,7 +33,8 @@ const OFFSETS: usize = 2147483647;
 
 // ── a group where it stands ──
 
-// What stands beside a group where there is none: a group of no slots, and no Option, since whoever asks for it asks for its slots.
+// What stands beside a group where there is none: a group of no slots. No Option: each who asks tests for slots anyway, and a group of none answers as no
+// group does.
 pub fn no_block() -> Block
     ensures { result ≡ no_block }
 {
@@ -69,7 +70,8 @@ pub fn block_at(form: &[u8], cursor: Cursor) -> Option<Block>
     }
     let after = at + FIELD + size;
     let lines = after + AFTER_NAME;
-    let count = usize::from(numbers::read_u16(form, after + FIELD));
+    let slots = numbers::read_u16(form, after + FIELD);
+    let count = usize::from(slots);
     let end = lines + LINE * count;
     let depth = size / TUPLE;
     if form[at] != FIRST_TAG {
@@ -81,7 +83,7 @@ pub fn block_at(form: &[u8], cursor: Cursor) -> Option<Block>
     if MOST < count {
         return None;
     }
-    if numbers::read_u64(form, after) != SIZES + SLOT_SIZES * (count as u64) {
+    if numbers::read_u64(form, after) != SIZES + SLOT_SIZES * u64::from(slots) {
         return None;
     }
     if form.len() < end {
@@ -203,7 +205,7 @@ fn after_block(form: &[u8], last: Block, name: Span) -> After
 // ── where a name would stand ──
 
 // How many groups, from the first on, have a first name that is not above a given one, and where the last of them begins and the one before
-// it. It is sought until a group's first name is above; the rest is told then too, so that `sought` makes no Option of it.
+// it. It is sought until a group's first name is above; no Option in place of `sought`, since the three numbers are what is told in the end.
 #[derive(Clone, Copy, Debug, PartialEq, Eq)]
 pub struct Place {
     pub sought: bool,
@@ -262,6 +264,7 @@ pub fn look(form: &[u8], slot: &[u8], name: Span) -> Option<Looked>
     let mut rises = true;
     let mut slots: usize = 0;
     let mut at: usize = 0;
+    // A `while`: the next group begins where this one ends.
     while at < form.len() {
         let block = block_at(form, Cursor { at })?;
         if !group_ok(form, block) {

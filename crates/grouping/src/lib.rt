@@ -20,7 +20,7 @@ ghost use Rattle.grouping.specs.FirstGroup.{first_run, slot_bytes_in};
 use answers::{Answer, Refusal};
 use fields::Cursor;
 use forms::Block;
-use groups::{GROUP, LINE, SLOT_LINE};
+use groups::{GROUP, LINE};
 use names::LIMIT;
 use pages::SLOTS;
 use slots::{SLOT, Span, TUPLE};
@@ -91,7 +91,7 @@ fn write_lines(page: &[u8], k: usize, n: usize, out: &mut [u8], p: usize)
     ensures { out.new ≡ put out.old p (line_bytes (map line_in (take n (drop k (slots_of page.now))))) }
 {
     for i in 0..n {
-        let line = numbers::read_u32(page, SLOT * (k + i) + SLOT_LINE);
+        let line = numbers::read_u32(page, SLOT * (k + i) + slots::LINE);
         numbers::write_u32(out, p + LINE * i, line);
     }
 }
@@ -105,6 +105,7 @@ fn write_form(page: &[u8], out: &mut [u8]) -> usize
     let n = page.len() / SLOT;
     let mut k: usize = 0;
     let mut p: usize = 0;
+    // A `while`: the next run begins where this one ends.
     while k < n {
         let run = run_from(page, k);
         p = forms::write_head(out, p, page, pages::span_of(page, k), 0, run);
@@ -147,6 +148,7 @@ fn write_slots(form: &[u8], out: &mut [u8])
 {
     let mut i: usize = 0;
     let mut at: usize = 0;
+    // A `while`: the next group begins where this one ends.
     while at < form.len() {
         let block = forms::block_here(form, Cursor { at });
         write_run(form, block, i, out);

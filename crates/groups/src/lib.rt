@@ -17,9 +17,6 @@ pub const LENGTH: usize = 2;
 
 pub const LINE: usize = 4;
 
-// Where the line number stands in a slot.
-pub const SLOT_LINE: usize = 4;
-
 // The most slots of a group: so many line numbers have room in a field.
 pub const MOST: usize = u16::MAX as usize / LINE;
 

@@ -15,6 +15,7 @@ pub fn read_full<R: Read>(input: &mut R, buf: &mut [u8]) -> io::Result<usize>
     ensures end { IfOk result (λ n. n < length buf.new → IsAtEnd (R.remaining input.new)) }
 {
     let mut done: usize = 0;
+    // A `while`: each read says how far it came.
     while done < buf.len() {
         let n = input.read(&mut buf[done..])?;
         if n == 0 {

@@ -4,7 +4,7 @@
 #![tactic(auto)]
 
 // The cases of 01's table "Name x | Becomes", in its order, those that say N(k) with their k.
-#[derive(Clone, Copy)]
+#[derive(Clone, Copy, Debug, PartialEq, Eq)]
 pub enum Case {
     // | below r0 and below N(0) | x |
     KeepBelow,

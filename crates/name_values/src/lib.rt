@@ -26,10 +26,10 @@ pub fn high_marker() -> Tuple
     ensures { result ≡ M }
 {
     Tuple {
-        position: 65535,
-        node: 65535,
-        sequence: 4294967295,
-        offset: 2147483647,
+        position: u16::MAX,
+        node: u16::MAX,
+        sequence: u32::MAX,
+        offset: i32::MAX,
     }
 }
 

@@ -3,6 +3,7 @@
 use mathlib.Core.Path.{◌≡◌}
 use Rattle.numbers.proofs.Settled.{one}
 use Rattle.names.proofs.compare_tuples.Reads as compare-tuples
+use Rattle.names.proofs.Name.row.Reads as row
 use Rattle.names.proofs.tuples_in.Reads as tuples-in
 use Rattle.names.proofs.compare.Reads as compare
 use Rattle.names.proofs.is_below.Reads as is_below
@@ -18,3 +19,7 @@ compare_settled κs a r s r' s' p q = one p q
 
 pub is_below_settled : (κs : _) (a : _) (r : _) (s : _) (r' : _) (s' : _) → is_below.Learnt κs a r s → is_below.Learnt κs a r' s' → r ≡ r'
 is_below_settled κs a r s r' s' p q = one p q
+
+-- the tuples of a name, up to where they stand
+pub row_settled : (κs : _) (a : _) (r : _) (s : _) (r' : _) (s' : _) → row.Learnt κs a r s → row.Learnt κs a r' s' → r.now ≡ r'.now
+row_settled κs a r s r' s' p q = one p q

@@ -22,7 +22,8 @@ pub struct Tuple {
 }
 
 // "A name is a row of at most eight tuples, passed as a whole" (02, P8: sixteen): the first depth of the tuples are the name's. A
-// depth above LIMIT counts as LIMIT.
+// depth above LIMIT counts as LIMIT. An array with its length beside, since there is no heap; and no derived equality or order, since the tuples after
+// the first depth are not the name's.
 #[derive(Clone, Copy)]
 pub struct Name {
     pub depth: usize,
@@ -46,6 +47,7 @@ pub struct Author {
 }
 
 // "Tuples compare by position, node, sequence, offset, in that order, offset signed."
+#[tactic(auto, using(crate::proofs::DerivedOrder::tuples_ordered))]
 pub fn compare_tuples(s: Tuple, t: Tuple) -> Ordering
     ensures { result ≡ compare_tuples s t }
 {

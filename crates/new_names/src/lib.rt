@@ -19,13 +19,13 @@ use slots::{Span, TUPLE};
 // "First positions count 0 for a missing a and 65535 for a missing b."
 const LOWEST: u16 = 0;
 
-const HIGHEST: u16 = 65535;
+const HIGHEST: u16 = u16::MAX;
 
 // The position of a new tuple that only has to follow what stands before it: half way.
 const MIDDLE: u16 = 32768;
 
 // Of what a name is made: of the tuples that stand at `a` and two more, the first `depth`.
-#[derive(Clone, Copy)]
+#[derive(Clone, Copy, Debug, PartialEq, Eq)]
 struct Parts {
     a: Span,
     first: Tuple,

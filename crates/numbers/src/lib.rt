@@ -6,7 +6,8 @@
 ghost use Rattle.std.specs.Prelude.{◌≡◌, ◌+◌, ◌*◌, ◌≤◌, length, get_or, replicate};
 ghost use Rattle.numbers.specs.Bytes.{at16, at32, at64, signed, unsigned, bytes16, bytes32, put};
 
-// The big-endian number of two bytes.
+// The big-endian number of two bytes. Here and below a function for each size: std's `from_be_bytes` takes an array of its own size, and each has a definition
+// of its own in specs/.
 pub fn read_u16(s: &[u8], p: usize) -> u16
     requires { p + 2 ≤ length s.now }
     ensures { result ≡ at16 s.now p }

@@ -185,7 +185,7 @@ fn place_from(log: &[u8], s: &[u8], x: Span, j: usize) -> Place
 }
 
 // The case of 01's table for a name, and how many names of the log are below it.
-#[derive(Clone, Copy)]
+#[derive(Clone, Copy, Debug, PartialEq, Eq)]
 pub struct Walked {
     pub below: usize,
     pub case: Case,
@@ -422,7 +422,7 @@ pub fn back_of(log: &[u8], author: Author, s: &[u8], c: Span) -> Back
 
 // What a name that is taken back is made at: r(k), where it is r(k) itself or is put behind it or ahead of it; else its own tuples. And how many tuples
 // it then has. Bools, since an enum in their place is copied byte by byte from turn to turn, and was measured to be slower.
-#[derive(Clone, Copy)]
+#[derive(Clone, Copy, Debug, PartialEq, Eq)]
 pub struct Stem {
     pub behind: bool,
     pub ahead: bool,

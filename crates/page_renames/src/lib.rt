@@ -37,7 +37,8 @@ fn is_fresh(slot: &[u8], author: Author) -> bool
     t.node != author.node || t.sequence != author.sequence
 }
 
-// "no name .. has (A, s) as node and sequence of its first tuple", of a page or of a log.
+// "no name .. has (A, s) as node and sequence of its first tuple", of a page or of a log. A `for`, here and below: what is called asks that the slot keeps the
+// layout, which the search does not find along `all`.
 fn all_fresh(page: &[u8], author: Author) -> bool
     requires { keeps_layout page.now ≡ true }
     ensures { result ≡ list_all (fresh author) (names_of page.now) }

@@ -8,6 +8,7 @@ use Rattle.pages.proofs.slot_ok.Reads as Slot-ok
 use Rattle.pages.proofs.look_over.Reads as look-over
 use Rattle.pages.proofs.look.Reads as look
 use Rattle.pages.proofs.log_ok.Reads as log-ok
+use Rattle.pages.proofs.check_over.Reads as check-over
 use Rattle.pages.proofs.check_page.Reads as check-page
 use Rattle.pages.proofs.check_log.Reads as check-log
 use Rattle.pages.proofs.find.Reads as find
@@ -28,6 +29,9 @@ log_ok_settled κs a r s r' s' p q = one p q
 
 pub check_page_settled : (κs : _) (a : _) (r : _) (s : _) (r' : _) (s' : _) → check-page.Learnt κs a r s → check-page.Learnt κs a r' s' → r ≡ r'
 check_page_settled κs a r s r' s' p q = one p q
+
+pub check_over_settled : (κs : _) (a : _) (r : _) (s : _) (r' : _) (s' : _) → check-over.Learnt κs a r s → check-over.Learnt κs a r' s' → r ≡ r'
+check_over_settled κs a r s r' s' p q = one p q
 
 pub check_log_settled : (κs : _) (a : _) (r : _) (s : _) (r' : _) (s' : _) → check-log.Learnt κs a r s → check-log.Learnt κs a r' s' → r ≡ r'
 check_log_settled κs a r s r' s' p q = one p q

@@ -153,7 +153,7 @@ pub fn name_of(page: &[u8], k: usize) -> Name
     slots::read_row(page, at, count)
 }
 
-// Where a name stands in a page, or would stand.
+// Where a name stands in a page, or would stand. No Result: a gap is no error, and in specs/ it reads as 01's gap.
 #[derive(Clone, Copy, Debug, PartialEq, Eq)]
 pub enum Place {
     // The slot of that name.

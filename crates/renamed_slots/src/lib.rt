@@ -25,7 +25,7 @@ use std::cmp::Ordering;
 const LAST: usize = SLOT - TUPLE;
 
 // "r(k)·m·v", or where r(k) is lowered "one below r(k), then M, then v"; v is the name without its first `cut` tuples.
-#[derive(Clone, Copy)]
+#[derive(Clone, Copy, Debug, PartialEq, Eq)]
 struct Joint {
     k: usize,
     cut: usize,
@@ -225,7 +225,7 @@ fn write_tail(out: &mut [u8], p: usize, slot: &[u8])
     numbers::write_zeros(out, p + LAST, 3);
 }
 
-// v, without none of the tuples or one.
+// v: the name without its first `cut` tuples, none or one.
 fn write_own(out: &mut [u8], p: usize, slot: &[u8], cut: usize)
     requires { (p + slot_size ≤ length out.old) × (keeps_slot slot.now ≡ true) × (cut ≤ 1) }
     ensures { out.new ≡ put out.old p (slot_bytes (record { line = line_of slot.now; name = drop cut (name_of slot.now) })) }

@@ -47,7 +47,7 @@ const MANY: usize = 8;
 pub const WORDS: usize = TUPLE * LIMIT / 4;
 
 // Where the line number stands in a slot, and node, sequence and offset in a tuple, after its position.
-const LINE: usize = 4;
+pub const LINE: usize = 4;
 
 const NODE: usize = 2;
 
@@ -181,7 +181,7 @@ fn compare_tuple(a: &[u8], p: usize, t: Tuple) -> Ordering
 }
 
 // "Names compare at the first tuple that differs; a proper prefix is smaller": the n tuples from p on in a with the m from q on in b, where
-// they stand. Everything that compares names in bytes goes through here.
+// they stand. Names in bytes are compared here, but for `compare_to_one` and `follows`.
 pub fn compare_rows(a: &[u8], p: usize, n: usize, b: &[u8], q: usize, m: usize) -> Ordering
     requires { (p + tuple_size * n ≤ length a.now) × (q + tuple_size * m ≤ length b.now) }
     ensures { result ≡ compare_rows (tuples_at a.now p n) (tuples_at b.now q m) }
