@@ -1,6 +1,6 @@
 -- Adding an entry at the end of a table. A table with an entry that may be added is a table (`added_table`); the routes, paths and
--- comparisons of its epochs are as before (`added_route`, `added_path`, `added_compare`); the new epoch's path is its parent's
--- and one more (`new_path`); the target is as before, or it is the new epoch, which is then greater (`added_target`,
+-- comparisons of its epochs are as before (`added_route`, `added_path`, `added_compare`); the new epoch's route and path are its
+-- parent's and one more (`new_route`, `new_path`); the target is as before, or it is the new epoch, which is then greater (`added_target`,
 -- `new_target`). Assumes nothing.
 use mathlib.Core.Path.{◌≡◌, refl, sym, ap, ◌∙◌}
 use mathlib.Core.Logic.{◌⊎◌, inl, inr}
@@ -134,6 +134,10 @@ module _ (t : List Entry) (h : Table t) (e : Entry) where
     route_at (suc i) q =
         route_suc (added t e) table_added i
         ∙ ap (λ (r : List ℕ). r ++ (suc i ∷ [])) (ap (route (added t e)) (new_parent (suc i) q) ∙ added_route e.parent m.in_table)
+
+    -- the parent's route, and the new index
+    pub new_route : route (added t e) (length t) ≡ route t e.parent ++ (length t ∷ [])
+    new_route = route_at (length t) refl
 
     path_at : (i : ℕ) → i ≡ length t → path (added t e) i ≡ path t e.parent ++ (e ∷ [])
     path_at zero q = absurd (let k : 0 < length t = h.some in omega arith)

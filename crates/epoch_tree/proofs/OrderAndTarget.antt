@@ -1,5 +1,6 @@
 -- The comparison of paths is the comparison of rows of tuples (`paths_rows`), so its laws are those of names. On the epochs of a table
--- it is a strict total order: `smaller_tri`, `smaller_trans`, `smaller_irrefl`. The target is one of them (`target_in`), and greater than each other (`target_greatest`, `none_above`). Paths
+-- it is a strict total order: `smaller_tri`, `smaller_trans`, `smaller_irrefl`; different epochs have different paths
+-- (`epochs_same`). The target is one of them (`target_in`), and greater than each other (`target_greatest`, `none_above`). Paths
 -- that agree do with an entry more (`agree_on`). Assumes nothing.
 use mathlib.Core.Path.{◌≡◌, refl, sym, ap, subst, ◌∙◌}
 use mathlib.Core.Logic.{◌⊎◌, inl, inr}
@@ -109,6 +110,10 @@ module _ (t : List Entry) where
         go (below l) = below (row_smaller i j l)
         go (level e) = level (rows_same i j a b e)
         go (above l) = above (row_smaller j i l)
+
+    -- different epochs have different paths
+    pub epochs_same : (i j : ℕ) → i < length t → j < length t → path t i ≡ path t j → i ≡ j
+    epochs_same i j a b e = rows_same i j a b (ap key_row e)
 
     -- ── the target ──
 

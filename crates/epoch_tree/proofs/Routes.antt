@@ -1,14 +1,14 @@
 -- Routes and paths. The route of an epoch other than 0 is its parent's and then its own index (`route_suc`, `route_ind`); it begins
 -- with 0 (`route_begins`), ends in its index (`route_ends`), which it determines (`route_same`), and is at most one longer than that
--- (`route_length`); each beginning of it is the route of an epoch with no greater index (`beginning`). The path likewise (`path_suc`,
+-- (`route_length`, `route_few`); each beginning of it is the route of an epoch with no greater index (`beginning`). The path likewise (`path_suc`,
 -- `path_ends`). Assumes nothing.
 use mathlib.Core.Path.{◌≡◌, refl, sym, ap, ◌∙◌}
 use mathlib.Core.List.{List, [], ◌∷◌, ◌++◌, map, map-append, append_assoc, head-eq_of_cons-eq, tail-eq_of_cons-eq}
-use Prim.Native.Nat.{ℕ, zero, suc, ◌+◌, ◌≤◌}
+use Prim.Native.Nat.{ℕ, zero, suc, ◌+◌, ◌<◌, ◌≤◌}
 use native.Mathlib.Nat.{le_refl}
 use native.Mathlib.Omega.{arith}
 use lib.ListN.{length, length-append}
-use Rattle.epoch_tree.specs.Tables.{Entry, entry_at}
+use Rattle.epoch_tree.specs.Tables.{Entry, max_entries, entry_at}
 use Rattle.epoch_tree.specs.Tree.{parent_of, route_within, route, path}
 use Rattle.epoch_tree.proofs.TableFacts.{Table}
 
@@ -96,6 +96,10 @@ module _ (t : List Entry) (h : Table t) where
           let e : length (route t (suc i)) ≡ suc (length (route t (parent_of t (suc i))) + 0) = ap length (route_suc i) ∙ snoc_length (route t (parent_of t (suc i))) (suc i) [] in
           let q : parent_of t (suc i) ≤ i = h.parent i in
           omega arith
+
+  -- so of a table's epoch it has at most 32 indices
+  pub route_few : (i : ℕ) → i < length t → length (route t i) ≤ max_entries
+  route_few i l = let a = route_length i in let b : length t ≤ 32 = h.few in omega arith
 
   -- a beginning of a route, up to x, is the route of x
   abbrev Beginnings : ℕ → Type 0

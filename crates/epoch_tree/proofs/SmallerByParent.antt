@@ -1,7 +1,7 @@
 -- Whether an epoch is smaller than another by recursion, the epoch index falling at each call, where `tie` is what two equal epochs come
 -- to (`smaller_or`): an epoch and itself (`tied`); epoch 0 is the smallest (`root_smaller`, `root_greater`); with the same parent the keys
 -- decide (`by_keys`); else the one with the greater parent index is compared by its parent, and where that is the other, its path goes on
--- and is the greater (`by_first_parent`, `by_second_parent`). Assumes nothing.
+-- and is the greater (`by_first_parent`, `by_second_parent`). With `false` for a tie it is the order (`smaller_or_lem`). Assumes nothing.
 use mathlib.Core.Path.{◌≡◌, refl, sym, ap, ◌∙◌}
 use mathlib.Core.List.{List}
 use mathlib.Core.Bool.{Bool, true, false, cond}
@@ -41,6 +41,15 @@ told_decided : (tie : Bool) (o : Ordering) → (o ≡ Equal → ⊥) → told ti
 told_decided tie Less f = refl
 told_decided tie Equal f = absurd (f refl)
 told_decided tie Greater f = refl
+
+told_no : (o : Ordering) → told false o ≡ is_lt o
+told_no Less = refl
+told_no Equal = refl
+told_no Greater = refl
+
+-- with `false` for a tie an epoch is not smaller than itself
+pub smaller_or_lem : (t : List Entry) (i j : ℕ) → smaller_or false t i j ≡ is_lt (compare_epochs t i j)
+smaller_or_lem t i j = told_no (compare_epochs t i j)
 
 pub tied : (tie : Bool) (t : List Entry) (i j : ℕ) → i ≡ j → smaller_or tie t i j ≡ tie
 tied tie t i j e = ap (λ (k : ℕ). smaller_or tie t i k) (sym e) ∙ ap (told tie) (same_epoch t i) ∙ told_tie tie

@@ -1,8 +1,8 @@
 -- The walk to the target. Each step is one edge, up to the parent or down to a child, and brings the other end one edge nearer; a step
 -- stays only there (`Edge`, `edge`). The number of edges is that of the way back (`edges_back`), 0 only from an epoch to itself
 -- (`edges_self`, `edges_none`), and at most 31 (`edges_few`). So following the next step reaches the target after exactly the number
--- of edges between the two (`walk_edges`, `walk_reaches`, `walk_not_before`), stays there (`stay_at_target`) and never leaves the table
--- (`walk_in`). Assumes nothing.
+-- of edges between the two (`walk_edges`, `walk_reaches`, `walk_31`, `walk_not_before`), stays there and nowhere else (`stay_at_target`,
+-- `stay_only`) and never leaves the table (`walk_in`). Assumes nothing.
 use mathlib.Core.Path.{◌≡◌, refl, sym, ap, subst, ◌∙◌}
 use mathlib.Core.Logic.{inl, inr}
 use mathlib.Core.List.{List, [], ◌∷◌, ◌++◌, append-nil, append_assoc, head-eq_of_cons-eq, tail-eq_of_cons-eq}
@@ -232,6 +232,10 @@ module _ (t : List Entry) (h : Table t) where
   pub walk_reaches : (k c : ℕ) → edges t c (target t) ≤ k → walk t k c ≡ target t
   walk_reaches k c l = edges_none (walk t k c) (target t) (let a = walk_edges k c in omega arith)
 
+  -- .. and so from 31 on, wherever it began
+  pub walk_31 : (c : ℕ) → c < length t → walk t 31 c ≡ target t
+  walk_31 c l = walk_reaches 31 c (edges_few c (target t) l (target_in t h))
+
   -- .. and not before
   pub walk_not_before : (k c : ℕ) → k < edges t c (target t) → ¬ (walk t k c ≡ target t)
   walk_not_before k c l e =
@@ -250,3 +254,10 @@ module _ (t : List Entry) (h : Table t) where
       go (stays q) = refl
       go (goes_up n q) = absurd (let z : edges t c (target t) ≡ 0 = none in omega arith)
       go (goes_down i n k p q) = absurd (let z : edges t c (target t) ≡ 0 = none in omega arith)
+
+  -- .. and there only
+  pub stay_only : (c : ℕ) → next_step t c ≡ Stay → c ≡ target t
+  stay_only c e =
+      let a = step_edges c in
+      let b : edges t (after (next_step t c) c) (target t) ≡ edges t c (target t) = ap (λ (s : Step). edges t (after s c) (target t)) e in
+      edges_none c (target t) (omega arith)

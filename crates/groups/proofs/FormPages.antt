@@ -25,7 +25,7 @@ use Rattle.groups.specs.Forms.{form_bytes, groups_in, slots_of_form, keeps_form}
 use Rattle.groups.specs.Calls.{form_tests, page_of}
 use Rattle.groups.proofs.Glue.{slots_back, are_longest}
 use Rattle.groups.proofs.GroupTests.{slots_good, are_groups, groups_back}
-use Rattle.groups.proofs.FormInverse.{kept, read_back, written_form, bytes_back}
+use Rattle.groups.proofs.FormInverse.{kept, written_octets, read_back, written_form, bytes_back}
 
 -- ── from a form ──
 
@@ -67,6 +67,9 @@ module _ (s : Bytes) (p : Passed (form_tests s)) where
 -- ── to a form ──
 
 module _ (l : List Slot) (e : list_all is_slot l ≡ true) (h : length l ≤ max_slots) where
+  pub form_octets : Octets (form_bytes (grouped l))
+  form_octets = written_octets (grouped l) (are_groups l e h)
+
   pub form_slots : slots_of_form (form_bytes (grouped l)) ≡ l
   form_slots = ap ungrouped (read_back (grouped l) (are_groups l e h)) ∙ slots_back l
 

@@ -1,26 +1,31 @@
 -- One group as bytes, at the beginning of some bytes: how long it is (`group_length`), that it is bytes (`group_all`); what is written is read
--- back (`stands_back`, `group_back`, `after_back`), and where a group stands the bytes begin with its writing (`group_there`). Assumes
--- nothing.
+-- back (`stands_back`, `group_back`, `after_back`), and where a group stands the bytes begin with its writing (`group_there`); what is then
+-- left to test of it (`found_exactly`). Assumes nothing.
 use mathlib.Core.Path.{◌≡◌, refl, sym, ap, ◌∙◌}
 use mathlib.Core.List.{List, ◌∷◌, ◌++◌, append_assoc}
 use mathlib.Core.Bool.{true, ◌&&◌}
-use Prim.Native.Nat.{ℕ, ◌+◌, ◌*◌}
+use Prim.Native.Nat.{ℕ, ◌+◌, ◌*◌, ◌≤◌}
 use native.Mathlib.Omega.{arith}
+use borrow.Author.Tests.{le-leb}
+use lib.Dec.{leb}
+use lib.IntN.{pos}
 use lib.ListN.{length, drop, length-append}
 use Rattle.names.specs.Names.{is_name}
 use Rattle.numbers.specs.Bytes.{Bytes, Octets, bytes16}
 use Rattle.numbers.proofs.NumberBytes.{here16, sum16}
 use Rattle.numbers.proofs.Octets.{AllBytes, join, two, octets_drop}
+use Rattle.numbers.proofs.ReadNumbers.{fits16}
 use Rattle.slots.specs.Tuples.{tuple_size, row_bytes}
-use Rattle.fields.specs.Fields.{field_head, size_in, after_field, stands, field_bytes}
+use Rattle.runs.proofs.RunNames.{last_offset}
+use Rattle.fields.specs.Fields.{field_head, longest_content, size_in, after_field, stands, field_bytes}
 use Rattle.fields.proofs.FieldInverse.{field_length, field_all, after_back as field_after, stands_back as field_stands, field_there}
-use Rattle.name_fields.specs.NameFields.{field_of_name, name_stands_as, tuples_in}
+use Rattle.name_fields.specs.NameFields.{name_fits, field_of_name, name_stands_as, tuples_in}
 use Rattle.name_fields.proofs.NameInverse.{name_length, name_field_all, name_stands_lem, tuples_back, name_there}
 use Rattle.groups.specs.Groups.{Group, size, line_size, is_group}
 use Rattle.groups.specs.Forms.{first_tag, length_tag, lines_tag, length_size, line_bytes, group_bytes, length_in, lines_at, group_stands, group_in, after_group, group_head}
-use Rattle.groups.proofs.RunSlots.{run_lines, run_first}
+use Rattle.groups.proofs.RunSlots.{run_lines, run_first, run_exactly}
 use Rattle.groups.proofs.GroupTests.{good}
-use Rattle.groups.proofs.LineBytes.{lines_length, lines_all, lines_back, length_lines_at, here_lines}
+use Rattle.groups.proofs.LineBytes.{lines_length, lines_all, lines_back, length_lines_at, here_lines, lines_u32}
 use Rattle.groups.proofs.GroupFields.{Stands, group_stands_lem}
 
 -- ── to bytes ──
@@ -151,3 +156,32 @@ module _ (s : Bytes) (k : Octets s) (e : group_stands s ≡ true) where
 
   pub after_octets : Octets (after_group s)
   after_octets = octets_drop (field_head + size_in after_length) after_length length_octets
+
+  pub found_size : size (group_in s) ≡ length_in (after_field s)
+  found_size = length_lines_at after_length field_head many
+
+  -- the length is small enough by itself
+  found_short : line_size * size (group_in s) ≤ longest_content
+  found_short =
+      let z = v.lines.sized in
+      let f = fits16 after_length 1 length_octets in
+      let n = found_size in
+      omega arith
+
+  -- of a group whose first name is one, the length and the last offset are left to test
+  pub found_exactly : {n : ℕ} → last_offset (tuples_in s) ≡ pos n → name_fits (tuples_in s) ≡ true → 1 ≤ length_in (after_field s)
+      → is_group (group_in s) ≡ leb (n + length_in (after_field s)) 2147483647
+  found_exactly {n} f w h =
+      let z = found_size in
+      let l = (group_in s).lines in
+      let long : 1 ≤ length l = omega arith in
+      let lines = lines_u32 after_length length_octets field_head many in
+      (λ i. le-leb 1 (length l) long i && le-leb (line_size * length l) longest_content found_short i && run_exactly (tuples_in s) l f w long i)
+      ∙ (λ i. lines i && leb (n + z i) 2147483647)
+
+  -- and of every other it is refused
+  pub found_good : is_group (group_in s) ≡ true → (1 ≤ length_in (after_field s)) × (name_fits (tuples_in s) ≡ true)
+  found_good h =
+      let z = found_size in
+      let w = good (group_in s) h in
+      (omega (arith, w.long), run_first (tuples_in s) (group_in s).lines w.long w.slots)

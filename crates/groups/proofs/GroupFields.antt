@@ -1,6 +1,6 @@
 -- The groups that stand one after the other: a turn along them, their end, and that it does not matter how many are asked for where there are
--- as many as bytes. So from any place on the groups are the one that stands there and those after it (`groups_turn`), and so is
--- what follows them (`rest_turn`, `rest_stop`). Assumes nothing.
+-- as many as bytes. So from any place on the groups are the one that stands there and those after it (`groups_turn`), or none (`groups_stop`),
+-- and so is what follows them (`rest_turn`, `rest_stop`). Assumes nothing.
 use mathlib.Core.Path.{◌≡◌, refl, sym, ap, ◌∙◌}
 use mathlib.Core.List.{List, [], ◌∷◌}
 use mathlib.Core.Bool.{Bool, true, false, cond, ◌&&◌}
@@ -108,5 +108,8 @@ module _ (s : Bytes) (e : group_stands s ≡ true) where
       ∙ rest_within (length s) (after_group s) (omega arith)
 
 module _ (s : Bytes) (e : group_stands s ≡ false) where
+  pub groups_stop : groups_in s ≡ []
+  groups_stop = within_stop s e (length s)
+
   pub rest_stop : rest_in s ≡ s
   rest_stop = after_stop s e (length s)

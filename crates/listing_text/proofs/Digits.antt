@@ -102,7 +102,10 @@ length_decimal (suc (suc k)) n h g = elim (dec_lt n 10) [
       omega (arith, length_more n t, length_decimal (suc k) (n / 10) a (omega arith))
 ]
 
--- a u32 has at most nine digits before the last
+-- a u32 has at most ten digits, and nine before the last
+pub ten_digits : (n : ℕ) → n < 4294967296 → length (decimal n) ≤ 10
+ten_digits n h = let a : n < 10000000000 = omega arith in length_decimal 10 n a (omega arith)
+
 pub nine_before : (n : ℕ) → n < 4294967296 → length (decimal (n / 10)) ≤ 9
 nine_before n h = let a : n / 10 < 1000000000 = omega arith in length_decimal 9 (n / 10) a (omega arith)
 

@@ -1,5 +1,5 @@
 -- A name's field at the place p of some bytes s, under any tag: where in s its tuples stand (`tuples_at_lem`), and how far it reaches
--- (`name_long`); what the code has found there (`some_told`, `none_told`, `field_nothing`), and where the tuples then stand (`Found`). The
+-- (`name_long`); what the code has found there (`some_told`, `none_told`, `field_tuples`, `field_nothing`), and where the tuples then stand (`Found`). The
 -- length of the field of a name that stands in s (`field_size`). Assumes nothing.
 use mathlib.Core.Path.{◌≡◌, refl, sym, ap, ◌∙◌}
 use mathlib.Core.Bool.{Bool, true, false}
@@ -47,7 +47,7 @@ none_told true x e = absurd (cc)
 none_told false x e = refl
 
 module _ (tag : ℕ) (t : Bytes) where
-  field_tuples : (n : ℕ) → field_in tag t ≡ Some n → (name_stands_as tag t ≡ true) × (size_in t / tuple_size ≡ n)
+  pub field_tuples : (n : ℕ) → field_in tag t ≡ Some n → (name_stands_as tag t ≡ true) × (size_in t / tuple_size ≡ n)
   field_tuples n e = some_told (name_stands_as tag t) (size_in t / tuple_size) n e
 
   pub field_nothing : field_in tag t ≡ None → name_stands_as tag t ≡ false

@@ -3,7 +3,7 @@
 use mathlib.Core.Path.{◌≡◌, refl, sym, ap, ◌∙◌}
 use mathlib.Core.Logic.{inl, inr}
 use mathlib.Core.List.{[], ◌∷◌, ◌++◌}
-use mathlib.Core.Bool.{true}
+use mathlib.Core.Bool.{true, false}
 use Prim.Native.Nat.{ℕ, zero, suc, ◌+◌, ◌-◌, ◌*◌, ◌<◌, ◌≤◌}
 use native.Mathlib.Decide.{dec_lt}
 use native.Mathlib.Omega.{arith}
@@ -227,6 +227,12 @@ onward_named k a {n} f g =
     let e : n + k ≡ r.0 = cc in
     omega (arith, r.2)
 
+-- what lies between two names of a run is a name
+pub onward_between : (j k : ℕ) (a : Row) → is_name a ≡ true → is_name (onward k a) ≡ true → j ≤ k → is_name (onward j a) ≡ true
+onward_between j k a e g h =
+    let r = name_offset a e in
+    onward_name j a e r.1 (omega (arith, onward_named k a r.1 g))
+
 -- ── the last offset in bytes ──
 
 -- the tuples before the last, and the last
@@ -260,6 +266,10 @@ name_at s p n e =
     let v = signed_is (at32 s (p + tuple_size * n - 4)) (sym (last_at s p n (name_count s p n e)) ∙ r.1) in
     (r.1 ∙ ap pos v, omega (arith, v, r.2))
 
+-- .. and so far it can be raised
+pub onward_at : (s : Bytes) (p n k : ℕ) → is_name (tuples_at s p n) ≡ true → is_name (onward k (tuples_at s p n)) ≡ true → at32 s (p + tuple_size * n - 4) + k ≤ 2147483646
+onward_at s p n k e g = onward_named k (tuples_at s p n) (name_at s p n e).0 g
+
 -- ── the test ──
 
 pub next_is : (a b : Row) → is_next a b ≡ true → next a ≡ b
@@ -272,3 +282,6 @@ next_is a b e = go (compare_rows (next a) b) (tri_n (next a) b) e
 
 pub is_next_lem : (a b : Row) → next a ≡ b → is_next a b ≡ true
 is_next_lem a b e = ap (λ (c : Row). is_eq (compare_rows c b)) e ∙ ap is_eq (row_same b)
+
+pub next_not : (a b : Row) → is_next a b ≡ false → ¬ (next a ≡ b)
+next_not a b f e = yes_no (is_next_lem a b e) f
