@@ -18,18 +18,18 @@ returns-then-count-gt-MOST-clause-value c =
     let p = c.args.cursor.at in
     let o : Octets s = λ i. omega (arith, c.type_inv.form i) in
     let z = c.size_at-size.ensures.0 in
-    let n = c.from-count.ensures ∙ c.read_u16.ensures ∙ ap (λ (k : ℕ). at16 s (p + field_head + k + field_head)) z ∙ length_at s p in
+    let n = c.from-count.ensures ∙ c.read_u16-slots.ensures ∙ ap (λ (k : ℕ). at16 s (p + field_head + k + field_head)) z ∙ length_at s p in
     block_none s p (none_asked s p o (λ v. let f = v.few in omega (arith, c.if-count-gt-MOST.true)))
 
-pub returns-then-read_u64-count-clause-value : goal.returns-then-read_u64-count-clause-value
-returns-then-read_u64-count-clause-value c =
+pub returns-then-read_u64-from-clause-value : goal.returns-then-read_u64-from-clause-value
+returns-then-read_u64-from-clause-value c =
     let s = c.args.form.now in
     let p = c.args.cursor.at in
     let o : Octets s = λ i. omega (arith, c.type_inv.form i) in
     let z = c.size_at-size.ensures.0 in
-    let n = c.from-count.ensures ∙ c.read_u16.ensures ∙ ap (λ (k : ℕ). at16 s (p + field_head + k + field_head)) z ∙ length_at s p in
     let m = c.read_u64.ensures ∙ ap (λ (k : ℕ). at64 s (p + field_head + k)) z in
-    block_none s p (none_asked s p o (λ v. c.if-read_u64-count.true (m ∙ v.sized ∙ ap sizes (sym n))))
+    let w = c.from.ensures ∙ c.read_u16-slots.ensures ∙ ap (λ (k : ℕ). at16 s (p + field_head + k + field_head)) z ∙ length_at s p in
+    block_none s p (none_asked s p o (λ v. c.if-read_u64-from.true (m ∙ v.sized ∙ ap sizes (sym w))))
 
 pub returns-then-form-end-clause-value : goal.returns-then-form-end-clause-value
 returns-then-form-end-clause-value c =
@@ -37,7 +37,7 @@ returns-then-form-end-clause-value c =
     let p = c.args.cursor.at in
     let o : Octets s = λ i. omega (arith, c.type_inv.form i) in
     let z = c.size_at-size.ensures.0 in
-    let n = c.from-count.ensures ∙ c.read_u16.ensures ∙ ap (λ (k : ℕ). at16 s (p + field_head + k + field_head)) z ∙ length_at s p in
+    let n = c.from-count.ensures ∙ c.read_u16-slots.ensures ∙ ap (λ (k : ℕ). at16 s (p + field_head + k + field_head)) z ∙ length_at s p in
     block_none s p (none_asked s p o (λ v. let l = v.long in omega (arith, c.if-form-end.true)))
 
 pub returns : goal.returns
@@ -46,14 +46,16 @@ returns c =
     let p = c.args.cursor.at in
     let o : Octets s = λ i. omega (arith, c.type_inv.form i) in
     let z = c.size_at-size.ensures.0 in
-    let n = c.from-count.ensures ∙ c.read_u16.ensures ∙ ap (λ (k : ℕ). at16 s (p + field_head + k + field_head)) z ∙ length_at s p in
+    let r = c.read_u16-slots.ensures ∙ ap (λ (k : ℕ). at16 s (p + field_head + k + field_head)) z ∙ length_at s p in
+    let n = c.from-count.ensures ∙ r in
+    let w = c.from.ensures ∙ r in
     let m = c.read_u64.ensures ∙ ap (λ (k : ℕ). at64 s (p + field_head + k)) z in
     let e = asked_stands s p o
     (record {
       tagged = c.if-form-at-ne-FIRST_TAG.false;
       whole = omega (arith, c.if-depth-size.false);
       few = omega (arith, c.if-count-gt-MOST.false);
-      sized = sym m ∙ c.if-read_u64-count.false ∙ ap sizes n;
+      sized = sym m ∙ c.if-read_u64-from.false ∙ ap sizes w;
       long = omega (arith, c.if-form-end.false);
     }) in
     let q : record {
