@@ -51,6 +51,7 @@ impl From<Refusal> for u32 {
     ghost from_gives = { λ r n. n ≡ refusal_number r };
 
     fn from(r: Refusal) -> u32 {
+        // `as`: nothing else tells a variant's number.
         r as u32
     }
 }

@@ -84,6 +84,7 @@ fn counted(k: u32) -> Name {
 fn insert_case(rt: &impl Print, mut bytes: Iter<u8>) -> io::Result<()> {
     let mut page = [0u8; PAGE];
     for (k, slot) in page.chunks_exact_mut(SLOT).enumerate() {
+        // `as`: an index of a page fits, and std has no From that way.
         slots::write_slot(slot, 0, LINE, counted(k as u32));
     }
     let mut slot = [0u8; SLOT];
@@ -111,6 +112,7 @@ const LEVEL: [u8; 50] =
 
 fn step_case(rt: &impl Print, mut bytes: Iter<u8>, table: &[u8]) -> io::Result<()> {
     let (k, _) = number(&mut bytes);
+    // `as`: std has no From that way.
     let next = epochs::next_step(table, k as usize);
     say(
         rt,

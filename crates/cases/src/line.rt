@@ -35,6 +35,7 @@ pub(crate) fn number(bytes: &mut Iter<u8>) -> (u32, u8) {
 // A number modulo 2^16.
 fn short(bytes: &mut Iter<u8>) -> u16 {
     let (value, _) = number(bytes);
+    // `as`: the remainder fits.
     (value % 65536) as u16
 }
 

@@ -31,6 +31,7 @@ const PARENT: usize = 6;
 const COUNT: usize = 8;
 
 // "the number of names in its rename's log (u16, 1..256)": the most names of a log.
+// `as`: no constant comes of From.
 const NAMES: u16 = pages::SLOTS as u16;
 
 // "An epoch table is 1..32 entries": the most entries, and the bytes of the largest table.
@@ -60,12 +61,14 @@ fn pair_of(entry: &[u8; ENTRY]) -> u64
 fn node_of(entry: &[u8; ENTRY]) -> u16
     ensures { result ≡ (entry_of entry.now).node }
 {
+    // `as`: what is left of the pair fits.
     (pair_of(entry) / SEQUENCES) as u16
 }
 
 fn sequence_of(entry: &[u8; ENTRY]) -> u32
     ensures { result ≡ (entry_of entry.now).sequence }
 {
+    // `as`: the remainder fits.
     (pair_of(entry) % SEQUENCES) as u32
 }
 
@@ -79,12 +82,14 @@ fn rest_of(entry: &[u8; ENTRY]) -> u32
 fn parent_of(entry: &[u8; ENTRY]) -> usize
     ensures { result ≡ (entry_of entry.now).parent }
 {
+    // `as`: std has no From that way.
     (rest_of(entry) / COUNTS) as usize
 }
 
 fn count_of(entry: &[u8; ENTRY]) -> u16
     ensures { result ≡ (entry_of entry.now).count }
 {
+    // `as`: the remainder fits.
     (rest_of(entry) % COUNTS) as u16
 }
 
@@ -394,6 +399,7 @@ fn write_entry(out: &mut [u8], p: usize, author: Author, parent: usize, count: u
 {
     numbers::write_u16(out, p, author.node);
     numbers::write_u32(out, p + SEQUENCE, author.sequence);
+    // `as`: it fits by the contract.
     numbers::write_u16(out, p + PARENT, parent as u16);
     numbers::write_u16(out, p + COUNT, count);
 }

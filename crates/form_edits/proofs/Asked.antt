@@ -20,15 +20,15 @@ use Rattle.fields.specs.Fields.{field_head}
 use Rattle.groups.specs.Groups.{Group, size}
 use Rattle.groups.specs.Forms.{form_bytes, groups_in, group_stands}
 use Rattle.forms.specs.declared.Block.{Block}
-use Rattle.forms.specs.Blocks.{no_block, block_here, end_of, Stood as Stands}
+use Rattle.forms.specs.Blocks.{no_block, end_of, Stood as Stands}
 use Rattle.std.specs.Ordering.{is_eq, is_le}
 use Rattle.forms.proofs.BlockAt.{stood}
 use Rattle.form_edits.specs.declared.Met.{Met}
 use Rattle.form_edits.specs.declared.Met.TheVariants.{Here, Inside, After}
-use Rattle.form_edits.specs.Choices.{met_in, after_block, precedes_in, goes_on}
+use Rattle.form_edits.specs.Choices.{group_at, met_in, after_block, precedes_in, goes_on}
 use Rattle.form_edits.specs.Edits.{Edited, place_in, preceded_in, next_in}
 use Rattle.form_edits.proofs.Zipper.{Preceded, first, second, Divided, none, some, divides}
-use Rattle.form_edits.proofs.LaidBlocks.{Laid, laid, stands_there, place_within}
+use Rattle.form_edits.proofs.LaidBlocks.{Laid, laid, there, stands_there, place_within}
 use Rattle.form_edits.proofs.MetNames.{met_inside, met_here}
 use Rattle.form_edits.proofs.Chosen.{Next, last, next, next_block, Found, before_all, at_group, Ends, ends, found_ends, bytes, is_group_lem, form_is, few, few_after, met_is}
 
@@ -88,20 +88,20 @@ module _ (s slot : Bytes) (k : Octets s) (so : Octets slot) (name : Span) (e : E
       go (none c a) = absurd (let z = ap (λ (b : Block). b.count) (nothing (le-ltb 1 (place_in s x).groups (omega arith))) in omega arith)
         where
           nothing : ltb 1 (place_in s x).groups ≡ false → preceded_in s x ≡ no_block
-          nothing q = ap (λ (b : Bool). cond b (block_here s (place_in s x).before) no_block) q
+          nothing q = ap (λ (b : Bool). cond b (group_at s (place_in s x).before) no_block) q
       go (some fs g hs q r a) = by r.before
         where
           by : Preceded fs (place_in s x).before → Bounds s (preceded_in s x)
           by (first z) =
               let c = r.count in
               let m = ap length z in
-              let n : preceded_in s x ≡ no_block = ap (λ (b : Bool). cond b (block_here s (place_in s x).before) no_block) (le-ltb 1 (place_in s x).groups (omega arith)) in
+              let n : preceded_in s x ≡ no_block = ap (λ (b : Bool). cond b (group_at s (place_in s x).before) no_block) (le-ltb 1 (place_in s x).groups (omega arith)) in
               absurd (let w = ap (λ (b : Block). b.count) n in omega arith)
           by (second es d z n) =
               let p : groups_in s ≡ es ++ (d ∷ g ∷ hs) = q ∙ ap (λ (y : List Group). y ++ (g ∷ hs)) z ∙ append_assoc es (d ∷ []) (g ∷ hs) in
               let c = r.count in
               let m = ap length z ∙ length-append es (d ∷ []) in
-              let u : preceded_in s x ≡ block_here s (length (form_bytes es)) = ap (λ (b : Bool). cond b (block_here s (place_in s x).before) no_block) (lt-ltb 1 (place_in s x).groups (omega arith)) ∙ ap (block_here s) n in
+              let u : preceded_in s x ≡ group_at s (length (form_bytes es)) = ap (λ (b : Bool). cond b (group_at s (place_in s x).before) no_block) (lt-ltb 1 (place_in s x).groups (omega arith)) ∙ ap (group_at s) n in
               subst (Bounds s) (sym u)
               (laid_bounds es d (g ∷ hs) (laid s k es d (g ∷ hs) (form_is s slot k so name e es d (g ∷ hs) p) (is_group_lem s slot k so name e es d (g ∷ hs) p)) (few s slot k so name e es d (g ∷ hs) p))
 
@@ -109,8 +109,8 @@ module _ (s slot : Bytes) (k : Octets s) (so : Octets slot) (name : Span) (e : E
   pub preceded_stood : Stands s (preceded_in s x)
   preceded_stood = go (ltb 1 (place_in s x).groups) refl
     where
-      go : (b : Bool) → ltb 1 (place_in s x).groups ≡ b → Stands s (cond b (block_here s (place_in s x).before) no_block)
-      go true t = stood s (place_in s x).before (preceded_stands t).1 k
+      go : (b : Bool) → ltb 1 (place_in s x).groups ≡ b → Stands s (cond b (group_at s (place_in s x).before) no_block)
+      go true t = let h = preceded_stands t in subst (Stands s) (sym (there s (place_in s x).before h.1)) (stood s (place_in s x).before h.1 k)
       go false t = (omega arith, omega arith, omega arith)
 
   module _ (b : Block) (v : Found s slot k so name e b) where

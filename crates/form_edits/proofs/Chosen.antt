@@ -42,12 +42,12 @@ use Rattle.groups.proofs.FormInverse.{form_none, form_append, bytes_back, kept a
 use Rattle.groups.proofs.FormPages.{Held, held}
 use Rattle.forms.specs.declared.Block.{Block}
 use Rattle.forms.specs.declared.Place.{Place}
-use Rattle.forms.specs.Blocks.{no_block, block_here, end_of}
+use Rattle.forms.specs.Blocks.{no_block, end_of}
 use Rattle.form_changes.specs.declared.Change.{Change}
 use Rattle.form_changes.specs.Changes.{Fits, Given, changed}
 use Rattle.form_edits.specs.declared.Met.{Met}
 use Rattle.form_edits.specs.declared.Met.TheVariants.{Here, Inside, After}
-use Rattle.form_edits.specs.Choices.{met_by, is_here, met_in, block_by, after_block, precedes_in, goes_on, head_of, split_by, bridge_by, append_by, prepend_by, alone_at, between_by, part_by, close_by, vanish_by}
+use Rattle.form_edits.specs.Choices.{group_at, met_by, is_here, met_in, block_by, after_block, precedes_in, goes_on, head_of, split_by, bridge_by, append_by, prepend_by, alone_at, between_by, part_by, close_by, vanish_by}
 use Rattle.form_edits.specs.Edits.{Edited, place_in, reached_in, preceded_in, next_in, taken_in, Inserts}
 use Rattle.form_edits.proofs.Zipper.{FirstAbove, Preceded, first, second, Reached, Divided, none, some, divides}
 use Rattle.form_edits.proofs.EditedGroups.{Cut, inserted_groups, inserted_absent, Stood, groups_over}
@@ -77,13 +77,13 @@ module _ (s : Bytes) (k : Octets s) (fs hs : List Group) (e : s ≡ form_bytes (
       go : (l : List Group) → hs ≡ l → Next s fs hs (next_in s (length (form_bytes fs)))
       go [] q =
           let z : length (form_bytes hs) ≡ 0 = ap (λ (l : List Group). length (form_bytes l)) q ∙ ap length form_none in
-          last q (ap (λ (b : Bool). cond b (block_here s p) no_block) (le-ltb p (length s) (omega (arith, long))))
+          last q (ap (λ (b : Bool). cond b (group_at s p) no_block) (le-ltb p (length s) (omega (arith, long))))
       go (h ∷ ks) q =
           let f : s ≡ form_bytes (fs ++ (h ∷ ks)) = e ∙ ap (λ (l : List Group). form_bytes (fs ++ l)) q in
           let g : is_group h ≡ true = and_0 (is_group h) (list_all is_group ks) (ap (list_all is_group) (sym q) ∙ v) in
           let d = laid s k fs h ks f g in
           let w : p < length s = let m = d.stood.1 in let c = d.start in let n = d.stood.0 in let o = d.deep in omega arith in
-          next h ks q (subst (Laid s fs h ks) (sym (ap (λ (b : Bool). cond b (block_here s p) no_block) (lt-ltb p (length s) w))) d)
+          next h ks q (subst (Laid s fs h ks) (sym (ap (λ (b : Bool). cond b (group_at s p) no_block) (lt-ltb p (length s) w))) d)
 
   -- where there is more, a group stands
   pub next_stands : ltb (length (form_bytes fs)) (length s) ≡ true → (length (form_bytes fs) ≤ length s) × (group_stands (drop (length (form_bytes fs)) s) ≡ true)
@@ -182,7 +182,7 @@ module _ (s slot : Bytes) (k : Octets s) (so : Octets slot) (name : Span) (e : E
     groups_after : list_all is_group hs ≡ true
     groups_after = and_1 (is_group g) (list_all is_group hs) groups_from
 
-    here : Laid s fs g hs (block_here s (length (form_bytes fs)))
+    here : Laid s fs g hs (group_at s (length (form_bytes fs)))
     here = laid s k fs g hs form_is is_group_lem
 
     stood : Stood fs g hs
@@ -207,13 +207,13 @@ module _ (s slot : Bytes) (k : Octets s) (so : Octets slot) (name : Span) (e : E
     after_is = form_is ∙ ap form_bytes (sym (append_assoc fs (g ∷ []) hs))
 
   -- the group that was reached, and the one before it
-  reached : (fs : List Group) (g : Group) → Reached x fs g (place_in s x) → reached_in s x ≡ block_here s (length (form_bytes fs))
+  reached : (fs : List Group) (g : Group) → Reached x fs g (place_in s x) → reached_in s x ≡ group_at s (length (form_bytes fs))
   reached fs g r =
       let c = r.count in
-      ap (λ (b : Bool). cond b (block_here s (place_in s x).here) no_block) (lt-ltb 0 (place_in s x).groups (omega arith)) ∙ ap (block_here s) r.here
+      ap (λ (b : Bool). cond b (group_at s (place_in s x).here) no_block) (lt-ltb 0 (place_in s x).groups (omega arith)) ∙ ap (group_at s) r.here
 
   nowhere_reached : (place_in s x).groups ≡ 0 → reached_in s x ≡ no_block
-  nowhere_reached c = ap (λ (b : Bool). cond b (block_here s (place_in s x).here) no_block) (le-ltb 0 (place_in s x).groups (omega arith))
+  nowhere_reached c = ap (λ (b : Bool). cond b (group_at s (place_in s x).here) no_block) (le-ltb 0 (place_in s x).groups (omega arith))
 
   -- where a name was met in the group that was reached
   pub met_is : (fs : List Group) (g : Group) (hs : List Group) (b : Block) → Laid s fs g hs b → met_in s b x ≡ met_by (beside_of g.first x) (size g)
@@ -466,10 +466,10 @@ module _ (s slot : Bytes) (k : Octets s) (so : Octets slot) (name : Span) (e : E
     pub precedes_by : (p : Place) → p.groups ≡ length fs + 1 → Preceded fs p.before → (f : Block) → f ≡ block_by s (ltb 1 p.groups) p.before
         → ((fs ≡ []) × (f ≡ no_block)) ⊎ ((es : List Group) × (d : Group) × (fs ≡ es ++ (d ∷ [])) × Laid s es d (g ∷ hs) f)
     precedes_by p c (first z) f t =
-        inl (z, t ∙ ap (λ (b : Bool). cond b (block_here s p.before) no_block) (le-ltb 1 p.groups (let n = ap length z in omega arith)))
+        inl (z, t ∙ ap (λ (b : Bool). cond b (group_at s p.before) no_block) (le-ltb 1 p.groups (let n = ap length z in omega arith)))
     precedes_by p c (second es d z n) f t =
         let m = ap length z ∙ length-append es (d ∷ []) in
-        let u = t ∙ ap (λ (b : Bool). cond b (block_here s p.before) no_block) (lt-ltb 1 p.groups (omega arith)) ∙ ap (block_here s) n in
+        let u = t ∙ ap (λ (b : Bool). cond b (group_at s p.before) no_block) (lt-ltb 1 p.groups (omega arith)) ∙ ap (group_at s) n in
         inr (es, d, z, subst (Laid s es d (g ∷ hs)) (sym u) (here es d (g ∷ hs) (q ∙ ap (λ (y : List Group). y ++ (g ∷ hs)) z ∙ append_assoc es (d ∷ []) (g ∷ hs))))
 
     goes_none : (f n : Block) → f ≡ no_block → goes_on s f n ≡ false

@@ -1,8 +1,8 @@
 -- A group of a form where it stands, after the groups fs and before hs (`Laid`, `laid`), its line numbers in two parts (`lines_first`, `lines_rest`), with what
 -- follows them (`lines_from`, `lines_on`), and the form up to there where another number of slots is said of the group (`recounted`). Assumes nothing.
-use mathlib.Core.Path.{◌≡◌, refl, ◌∙◌, sym, ap}
+use mathlib.Core.Path.{◌≡◌, refl, ◌∙◌, sym, ap, subst}
 use mathlib.Core.List.{List, [], ◌∷◌, ◌++◌, append_assoc, append-nil}
-use mathlib.Core.Bool.{true}
+use mathlib.Core.Bool.{Bool, true, cond}
 use Prim.Native.Nat.{ℕ, ◌+◌, ◌-◌, ◌*◌, ◌≤◌}
 use native.Mathlib.Omega.{arith}
 use lib.ListN.{length, take, drop, length-append, take-append-drop}
@@ -22,13 +22,14 @@ use Rattle.groups.proofs.LineBytes.{length_lines_at, lines_length, here_lines, l
 use Rattle.groups.proofs.GroupBytes.{stands_back, group_back, after_back}
 use Rattle.groups.proofs.FormInverse.{form_none, form_more, form_append}
 use Rattle.forms.specs.declared.Block.{Block}
-use Rattle.forms.specs.Blocks.{block_here, end_of, Stood, after_name, sizes_bytes}
+use Rattle.forms.specs.Blocks.{no_block, block_here, end_of, Stood, after_name, sizes_bytes}
 use Rattle.forms.proofs.BlockAt.{block_group, block_end, block_after, stood}
 use Rattle.forms.proofs.GroupsInBlocks.{group_named}
 use Rattle.forms.proofs.HeadBytes.{sizes_size, head_lines}
 use Rattle.form_changes.specs.declared.Change.{Change}
 use Rattle.form_changes.specs.Changes.{head_for, front}
 use Rattle.form_changes.proofs.ChangedBytes.{a_head, some_sizes}
+use Rattle.form_edits.specs.Choices.{group_at}
 
 pub record Laid (s : Bytes) (fs : List Group) (g : Group) (hs : List Group) (b : Block) : Type 0 where
   pub start : b.name.at ≡ length (form_bytes fs) + field_head
@@ -47,6 +48,10 @@ pub record Laid (s : Bytes) (fs : List Group) (g : Group) (hs : List Group) (b :
   pub after : drop (end_of b) s ≡ form_bytes hs
   pub spaced : length (form_bytes fs) + after_name ≤ b.lines
   pub headed : take (b.lines - after_name) s ≡ form_bytes fs ++ field_of_name first_tag g.first
+
+-- what stands at p, where a group stands there
+pub there : (s : Bytes) (p : ℕ) → group_stands (drop p s) ≡ true → group_at s p ≡ block_here s p
+there s p e = ap (λ (b : Bool). cond b (block_here s p) no_block) e
 
 -- a group more
 pub one_more : (fs : List Group) (g : Group) → form_bytes (fs ++ (g ∷ [])) ≡ form_bytes fs ++ group_bytes g
@@ -96,8 +101,8 @@ module _ (s : Bytes) (k : Octets s) (fs : List Group) (g : Group) (hs : List Gro
       let l = lines_length g.lines in
       ap length (head_lines g) ∙ length-append (a ++ sizes_bytes (size g)) (line_bytes g.lines) ∙ ap (λ (n : ℕ). n + length (line_bytes g.lines)) (length-append a (sizes_bytes (size g))) ∙ omega arith
 
-  pub laid : Laid s fs g hs (block_here s (length (form_bytes fs)))
-  laid =
+  laid_here : Laid s fs g hs (block_here s (length (form_bytes fs)))
+  laid_here =
       let b = block_here s p in
       let q = block_group s p stands_there ∙ is_group_lem in
       let first : row_at s b.name ≡ g.first = ap (λ (h : Group). h.first) q in
@@ -128,6 +133,9 @@ module _ (s : Bytes) (k : Octets s) (fs : List Group) (g : Group) (hs : List Gro
         spaced = omega arith;
         headed = ap (take (b.lines - after_name)) fields ∙ take_at (form_bytes fs ++ field_of_name first_tag g.first) after_field_lem (b.lines - after_name) name-end;
       }
+
+  pub laid : Laid s fs g hs (group_at s (length (form_bytes fs)))
+  laid = subst (Laid s fs g hs) (sym (there s p stands_there)) laid_here
 
 -- its line numbers, the first i and the rest
 module _ {s : Bytes} {fs : List Group} {g : Group} {hs : List Group} {b : Block} (k : Octets s) (v : Laid s fs g hs b) (i : ℕ) (h : i ≤ b.count) where

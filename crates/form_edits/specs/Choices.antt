@@ -1,6 +1,6 @@
 -- Which change an edit makes of a form, by its groups where they stand; 02 does not speak of it. What comes out is `groups`' insert_form_outcome and
 -- remove_form_outcome.
-use Rattle.std.specs.Prelude.{ℕ, ◌+◌, ◌-◌, ◌*◌, Bool, true, false, cond, eqb, ltb}
+use Rattle.std.specs.Prelude.{ℕ, ◌+◌, ◌-◌, ◌*◌, drop, Bool, true, false, cond, eqb, ltb}
 use Rattle.names.specs.Ordering.{Row, compare_rows}
 use Rattle.std.specs.Ordering.{is_eq}
 use Rattle.numbers.specs.Bytes.{Bytes}
@@ -12,6 +12,7 @@ use Rattle.runs.specs.Beside.{beside_of}
 use Rattle.runs.specs.declared.Stand.{Stand}
 use Rattle.runs.specs.declared.Stand.TheVariants.{Below, Before, At, Beyond, Above}
 use Rattle.groups.specs.Groups.{line_size}
+use Rattle.groups.specs.Forms.{group_stands}
 use Rattle.forms.specs.declared.Block.{Block}
 use Rattle.forms.specs.Blocks.{no_block, block_here, end_of}
 use Rattle.form_changes.specs.declared.Head.{Head}
@@ -40,9 +41,13 @@ is_here (After joins) = false
 abbrev pub met_in : Bytes → Block → Row → Met
 met_in s b x = cond (eqb b.name.count 0) (After false) (met_by (beside_of (row_at s b.name) x) b.count)
 
+-- the group that stands at p, or none
+abbrev pub group_at : Bytes → ℕ → Block
+group_at s p = cond (group_stands (drop p s)) (block_here s p) no_block
+
 -- the group at p, where one is found
 abbrev pub block_by : Bytes → Bool → ℕ → Block
-block_by s found p = cond found (block_here s p) no_block
+block_by s found p = cond found (group_at s p) no_block
 
 -- where the groups after it begin
 abbrev pub after_block : Block → ℕ

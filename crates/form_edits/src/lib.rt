@@ -66,7 +66,7 @@ fn after_place(block: Block) -> usize
 }
 
 // Where a name stands in a group whose first name is not above it: it is the name of that slot, it lies before that slot, within the group, or
-// it is above them all, and would go on with the run or not.
+// it is above them all, and would go on with the run or not. That bool is a fact of the name and switches no step on; likewise `ends` and `joins` below.
 #[derive(Clone, Copy, Debug, PartialEq, Eq)]
 enum Met {
     Here(usize),
@@ -111,6 +111,7 @@ fn meet(form: &[u8], block: Block, slot: &[u8], name: Span) -> Met
     let last = TUPLE * n - OFFSET_SIZE;
     let steps = numbers::read_u32(slot, name.at + last)
         - numbers::read_u32(form, block.name.at + last);
+    // `as`: std has no From that way.
     met_after(steps as usize, block.count, name.count == n)
 }
 
@@ -149,6 +150,7 @@ fn splits(block: Block, index: usize, name: Span) -> Insertion
             count: index,
             rest: Head {
                 name: block.name,
+                // `as`: it fits by the contract.
                 onward: index as u32,
                 slots: block.count - index,
             },
@@ -236,7 +238,7 @@ fn comes_before(form: &[u8], next: Block, slot: &[u8], name: Span) -> bool
 }
 
 // A name above the group and below the next one, which begins at `end`: whether it is the next of the group's run, and comes right before the
-// next group's.
+// next group's. Two bools, since they are two facts, and each pair of them is a case.
 fn between(
     block: Block,
     next: Block,
@@ -338,6 +340,7 @@ fn leaves_parts(block: Block, index: usize) -> Change
         count: index,
         rest: Head {
             name: block.name,
+            // `as`: it fits by the contract.
             onward: next as u32,
             slots: block.count - next,
         },
@@ -387,6 +390,7 @@ fn goes_on(form: &[u8], before: Block, next: Block) -> bool
             form,
             next.name.at,
             before.name.count,
+            // `as`: it fits by the contract.
             before.count as u32,
         )
 }

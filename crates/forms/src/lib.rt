@@ -140,6 +140,7 @@ fn last_offset(form: &[u8], name: Span) -> usize
     requires { Within form.now name × (1 ≤ name.count) }
     ensures { result ≡ at32 form.now (name.at + tuple_size * name.count - 4) }
 {
+    // `as`: std has no From that way.
     numbers::read_u32(form, name.at + TUPLE * name.count - OFFSET_SIZE) as usize
 }
 
@@ -296,6 +297,7 @@ pub fn write_sizes(out: &mut [u8], p: usize, count: usize)
     requires { (line_size * count ≤ 65535) × (p + after_name ≤ length out.old) }
     ensures { out.new ≡ put out.old p (sizes_bytes count) }
 {
+    // `as`: the sizes fit by the contract.
     fields::write_field_head(out, p, LENGTH_TAG, LENGTH as u16);
     numbers::write_u16(out, p + FIELD, count as u16);
     fields::write_field_head(out, p + FIELD + LENGTH, LINES_TAG, (LINE * count) as u16);
@@ -309,6 +311,7 @@ pub fn write_head(out: &mut [u8], p: usize, s: &[u8], name: Span, k: u32, count:
     ensures out_after { out.new ≡ put out.old p (head_bytes (onward k (row_at s.now name)) count) }
 {
     let size = TUPLE * name.count;
+    // `as`: a name has 16 tuples at most.
     fields::write_field_head(out, p, FIRST_TAG, size as u16);
     runs::copy_onward(out, p + FIELD, s, name, k);
     let sizes = p + FIELD + size;

@@ -137,6 +137,7 @@ fn write_run(form: &[u8], block: Block, i: usize, out: &mut [u8])
 {
     for k in 0..block.count {
         let line = numbers::read_u32(form, block.lines + LINE * k);
+        // `as`: it fits, since a group has no more slots than its field has room for.
         runs::copy_slot_onward(out, SLOT * (i + k), line, form, block.name, k as u32);
     }
 }

@@ -18,6 +18,7 @@ pub const LENGTH: usize = 2;
 pub const LINE: usize = 4;
 
 // The most slots of a group: so many line numbers have room in a field.
+// `as`: no constant comes of From.
 pub const MOST: usize = u16::MAX as usize / LINE;
 
 // The bytes of a group beside its tuples and its line numbers, and those of them that stand after the tuples.

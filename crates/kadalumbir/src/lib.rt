@@ -25,6 +25,7 @@ fn pack(a: Answer) -> u64
     requires { count_of a < 4294967296 }
     ensures { result ≡ packed a }
 {
+    // `as`: std has no From that way.
     u64::from(answers::number(a)) * 4294967296 + answers::count(a) as u64
 }
 
@@ -162,6 +163,7 @@ pub extern "C" fn kadalumbir_next_step(
 {
     let next = epochs::next_step(table, current);
     *step = epochs::step_number(next);
+    // `as`: an index of a table fits.
     *index = epochs::step_index(next) as u32;
     pack(epochs::answer(next))
 }

@@ -52,6 +52,7 @@ fn put_decimal(out: &mut [u8], p: usize, n: u32) -> usize
     ensures value { (result ≡ p + length (decimal n)) × (out.new ≡ put out.old p (decimal n)) }
     ensures upper_bound { result ≤ p + number_room }
 {
+    // `as`: the remainder fits.
     let last = b'0' + (n % 10) as u8;
     if n < 10 {
         return put_byte(out, p, last);
@@ -117,6 +118,7 @@ fn put_line(out: &mut [u8], p: usize, slot: &[u8]) -> usize
 {
     let d = slots::depth(slot);
     let depth = put_number(out, p, slots::read_line(slot), b' ');
+    // `as`: a depth fits.
     let name = put_number(out, depth, d as u32, b' ');
     let end = put_name(out, name, slot, HEAD, d);
     put_byte(out, end, b'\n')

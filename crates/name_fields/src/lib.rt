@@ -33,6 +33,7 @@ pub fn write_name(out: &mut [u8], p: usize, tag: u8, s: &[u8], name: Span) -> us
     ensures out_after { out.new ≡ put out.old p (field_of_name tag (row_at s.now name)) }
 {
     let size = TUPLE * name.count;
+    // `as`: a name has 16 tuples at most.
     fields::write_field_head(out, p, tag, size as u16);
     slots::copy_row(out, p + FIELD, s, name.at, name.count);
     p + FIELD + size

@@ -143,6 +143,7 @@ fn new_between(page: &[u8], a: Span, b: Span, author: Author) -> Result<Parts, R
     if low + 2 <= high {
         return one_more(
             Span { at: 0, count: 0 },
+            // `as`: half the sum of two positions fits.
             own(author, ((low + high) / 2) as u16),
         );
     }

@@ -55,6 +55,7 @@ fn numbered(p: u16, author: Author, k: usize) -> Tuple
     requires { k < max_slots }
     ensures { result ≡ lead_tuple p author (pos k) }
 {
+    // `as`: it fits by the contract.
     lead(p, author, k as i32)
 }
 
@@ -385,6 +386,7 @@ fn index_of(s: &[u8], c: Span) -> usize
     requires { Lies s.now c × (1 ≤ c.count) × (non_neg (get_or (row_at s.now c) 0 m).offset ≡ true) }
     ensures { pos result ≡ (get_or (row_at s.now c) 0 m).offset }
 {
+    // `as`: it fits, since it is not below 0.
     slots::read_tuple(s, c.at).offset as usize
 }
 

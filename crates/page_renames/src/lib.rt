@@ -118,7 +118,8 @@ fn write_one_back(page: &[u8], log: &[u8], author: Author, alone: bool, i: usize
     }
 }
 
-// The page taken back, from the start of out.
+// The page taken back, from the start of out. `alone` was found of the whole page and is handed on: asked slot by slot it would be the comparison that
+// it spares.
 fn write_back(page: &[u8], log: &[u8], author: Author, alone: bool, out: &mut [u8])
     requires page_value { (keeps_layout page.now ≡ true) × (is_log log.now ≡ true) × (length page.now ≤ length out.old) }
     requires page_value_2 { all_fit (take_back_row author (names_of log.now)) page.now ≡ true }
@@ -169,8 +170,9 @@ fn pair_rises(page: &[u8], log: &[u8], author: Author, i: usize) -> bool
     renamed_slots::backs_rise(&slots[i - 1], last, &slots[i], here, log)
 }
 
-// It went so before, and slot i, where it is not the first, rises too. The two names are compared only where a marker stands so that they could meet:
-// elsewhere they rise by a theorem, `apart_kept` (one_name/proofs/Neighbours.antt; in specs/Laws.antt `apart_kept`).
+// It went so before (`rises`, an outcome that is carried on and no switch), and slot i, where it is not the first, rises too. The two names are compared
+// only where a marker stands so that they could meet: elsewhere they rise by a theorem, `apart_kept` (one_name/proofs/Neighbours.antt; in
+// specs/Laws.antt `apart_kept`).
 fn still_rises(
     page: &[u8],
     log: &[u8],

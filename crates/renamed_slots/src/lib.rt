@@ -266,7 +266,7 @@ fn write_joined(
     slots::copy_row(out, end + TUPLE + TUPLE, slot, v.at, v.count);
 }
 
-// The last tuple of r(k), or of one below r(k).
+// The last tuple of r(k), or of one below r(k): `lowered` is which of the two it is, a fact that came of the comparison and no switch.
 fn last_of(log: &[u8], k: usize, lowered: bool) -> Tuple
     requires { (is_log log.now ≡ true) × (k < length (names_of log.now)) }
     ensures { result ≡ get_or (below_if lowered (get_or (names_of log.now) k [])) (length (get_or (names_of log.now) k []) - 1) m }

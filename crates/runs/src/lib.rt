@@ -46,6 +46,7 @@ fn beside_offsets(x: i32, y: i32, ends: bool) -> Stand
             Stand::Below
         };
     }
+    // `as`: it fits, since it is not below 0.
     let i = (y - x) as usize;
     if ends { Stand::At(i) } else { Stand::Beyond(i) }
 }

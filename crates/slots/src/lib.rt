@@ -595,6 +595,7 @@ pub fn write_head(out: &mut [u8], p: usize, d: usize, line: u32)
     requires { (p + head_size ≤ length out.old) × (d ≤ limit) }
     ensures { out.new ≡ put out.old p ((d ∷ 0 ∷ 0 ∷ 0 ∷ []) ++ bytes32 line) }
 {
+    // `as`: a depth fits.
     numbers::write_u32(out, p, (d as u32) * THREE_BYTES);
     numbers::write_u32(out, p + LINE, line);
 }

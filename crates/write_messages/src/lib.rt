@@ -28,6 +28,7 @@ fn write_kind(out: &mut [u8], p: usize, kind: u8)
     requires { p + (field_head + kind_size) ≤ length out.old }
     ensures { out.new ≡ put out.old p (field_bytes kind_tag (kind ∷ [])) }
 {
+    // `as`: a size of one field fits; std has no From that way.
     fields::write_field_head(out, p, KIND_TAG, KIND as u16);
     out[p + FIELD] = kind;
 }
@@ -37,6 +38,7 @@ fn write_pair(out: &mut [u8], p: usize, tag: u8, x: Author)
     requires { p + (field_head + pair_size) ≤ length out.old }
     ensures { out.new ≡ put out.old p (field_bytes tag (pair_bytes x)) }
 {
+    // `as`: likewise.
     fields::write_field_head(out, p, tag, PAIR as u16);
     numbers::write_u16(out, p + FIELD, x.node);
     numbers::write_u32(out, p + FIELD + SEQUENCE, x.sequence);
@@ -71,6 +73,7 @@ fn write_line(out: &mut [u8], p: usize, kind: u8, line: u32)
     ensures { out.new ≡ put out.old p (flatten (line_fields kind line)) }
 {
     if kind == INSERT {
+        // `as`: likewise.
         fields::write_field_head(out, p, LINE_TAG, LINE as u16);
         numbers::write_u32(out, p + FIELD, line);
     }
