@@ -61,7 +61,8 @@ pub fn tuples_in(a: Name) -> usize
     a.row().len()
 }
 
-// "Names compare at the first tuple that differs"; a proper prefix is smaller.
+// "Names compare at the first tuple that differs"; a proper prefix is smaller: so do slices. The loop that 01 names stands where names in bytes compare,
+// in `slots::compare_rows`.
 pub fn compare(a: Name, b: Name) -> Ordering
     ensures { result ≡ compare_rows (row_of a) (row_of b) }
 {

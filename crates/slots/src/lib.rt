@@ -186,13 +186,19 @@ pub fn compare_rows(a: &[u8], p: usize, n: usize, b: &[u8], q: usize, m: usize) 
     requires { (p + tuple_size * n ≤ length a.now) × (q + tuple_size * m ≤ length b.now) }
     ensures { result ≡ compare_rows (tuples_at a.now p n) (tuples_at b.now q m) }
 {
-    for i in 0..n.min(m) {
+    let most = n.min(m);
+    let mut i = 0;
+    // No `for`: 01 names the form of this place, "a loop that yields by break the index or the ordering at the first difference".
+    loop {
+        if most <= i {
+            break n.cmp(&m);
+        }
         let order = compare_tuples(a, p + TUPLE * i, b, q + TUPLE * i);
         if order.is_ne() {
-            return order;
+            break order;
         }
+        i += 1;
     }
-    n.cmp(&m)
 }
 
 // The tuples that stand at p and at q are equal. All is read before it is tested, and nothing swapped.
@@ -210,12 +216,17 @@ fn alike(a: &[u8], p: usize, n: usize, b: &[u8], q: usize, m: usize) -> usize
     ensures result_value { result < n → result < m → is_eq (compare_tuples (tuple_at a.now (p + tuple_size * result)) (tuple_at b.now (q + tuple_size * result))) ≡ false }
 {
     let most = n.min(m);
-    for i in 0..most {
-        if !same_tuples(a, p + TUPLE * i, b, q + TUPLE * i) {
-            return i;
+    let mut i = 0;
+    // No `for`: "a loop that yields by break the index", as in `compare_rows`.
+    loop {
+        if most <= i {
+            break i;
         }
+        if !same_tuples(a, p + TUPLE * i, b, q + TUPLE * i) {
+            break i;
+        }
+        i += 1;
     }
-    most
 }
 
 // The n tuples from p on, compared with the name of one tuple.

@@ -6,7 +6,7 @@ use Rattle.slots.proofs.compare_rows.Goals as goal
 pub loop-i-init : goal.loop-i-init
 loop-i-init c =
     let x = c.args in
-    left_all x.a.now x.p x.n x.b.now x.q x.m
+    (omega arith, left_all x.a.now x.p x.n x.b.now x.q x.m)
 
 pub returns-then-is_ne : goal.returns-then-is_ne
 returns-then-is_ne c =
@@ -14,17 +14,19 @@ returns-then-is_ne c =
     let i = c.loop-i.i in
     differs c.compare_tuples-order.result (left_from x.a.now x.p x.n x.b.now x.q x.m (i + 1)) (sym c.is_ne.ensures ∙ c.if-is_ne.true)
     ∙ left_at x.a.now x.p x.n x.b.now x.q x.m i c.compare_tuples-order.ensures refl (omega arith) (omega arith)
-    ∙ c.loop-i.invariant
+    ∙ c.loop-i.invariant.1
 
 pub loop-i-preserved : goal.loop-i-preserved
 loop-i-preserved c =
     let x = c.args in
-    let i = c.loop-i.i in
-    agrees c.compare_tuples-order.result (left_from x.a.now x.p x.n x.b.now x.q x.m (i + 1)) (sym c.is_ne.ensures ∙ c.if-is_ne.false)
-    ∙ left_at x.a.now x.p x.n x.b.now x.q x.m i c.compare_tuples-order.ensures refl (omega arith) (omega arith)
-    ∙ c.loop-i.invariant
+    let i = c.loop-i.i in (
+      omega arith,
+      agrees c.compare_tuples-order.result (left_from x.a.now x.p x.n x.b.now x.q x.m (i + 1)) (sym c.is_ne.ensures ∙ c.if-is_ne.false)
+          ∙ left_at x.a.now x.p x.n x.b.now x.q x.m i c.compare_tuples-order.ensures refl (omega arith) (omega arith)
+          ∙ c.loop-i.invariant.1,
+    )
 
-pub returns : goal.returns
-returns c =
+pub returns-then-most-i : goal.returns-then-most-i
+returns-then-most-i c =
     let x = c.args in
-    c.cmp.ensures ∙ sym (nat_is x.n x.m) ∙ left_end x.a.now x.p x.n x.b.now x.q x.m c.loop-i.i (omega arith) ∙ c.loop-i.invariant
+    c.cmp.ensures ∙ sym (nat_is x.n x.m) ∙ left_end x.a.now x.p x.n x.b.now x.q x.m c.loop-i.i (omega arith) ∙ c.loop-i.invariant.1
