@@ -1,7 +1,7 @@
 -- The derived order of numbers (`nat_is`, `int_is`) and of tuples, field by field, is the comparison of 01 (`tuples_ordered`), and that of slices the comparison
 -- of rows (`rows_ordered`).
 -- Assumes nothing.
-use mathlib.Core.Path.{◌≡◌, refl}
+use mathlib.Core.Path.{◌≡◌, ◌∙◌, refl}
 use mathlib.Core.List.{[], ◌∷◌}
 use mathlib.Core.Bool.{Bool, true, false}
 use Prim.Native.Nat.{ℕ, ◌<◌}
@@ -43,6 +43,10 @@ rows_ordered R f [] [] = refl
 rows_ordered R f [] (t ∷ b) = refl
 rows_ordered R f (s ∷ a) [] = refl
 rows_ordered R f (s ∷ a) (t ∷ b) = λ i. ordering_then (f s t i) (rows_ordered R f a b i)
+
+-- two slices compare as the rows that they are
+pub rows_compared : {o : Ordering} {x y a b : Row} → o ≡ slice_cmp (λ (s t : Tuple). ordering_then (nat_cmp s.position t.position) (ordering_then (nat_cmp s.node t.node) (ordering_then (nat_cmp s.sequence t.sequence) (int_cmp s.offset t.offset)))) x y → x ≡ a → y ≡ b → o ≡ compare_rows a b
+rows_compared {x = x} {y = y} e p q = e ∙ rows_ordered _ tuples_ordered x y ∙ (λ i. compare_rows (p i) (q i))
 
 -- numbers that differ decide
 pub differ_decides : (a b : ℕ) (o : Ordering) → ¬ (a ≡ b) → compare_ℕ a b ≡ ordering_then (compare_ℕ a b) o

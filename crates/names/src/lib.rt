@@ -63,6 +63,7 @@ pub fn tuples_in(a: Name) -> usize
 
 // "Names compare at the first tuple that differs"; a proper prefix is smaller: so do slices. The loop that 01 names stands where names in bytes compare,
 // in `slots::compare_rows`.
+#[tactic(auto, using(crate::proofs::DerivedOrder::rows_compared))]
 pub fn compare(a: Name, b: Name) -> Ordering
     ensures { result ≡ compare_rows (row_of a) (row_of b) }
 {
