@@ -180,6 +180,14 @@ fn compare_tuple(a: &[u8], p: usize, t: Tuple) -> Ordering
     )
 }
 
+// Where the shorter of two rows has ended, the longer is the greater: "a proper prefix is smaller".
+#[tactic(auto, using(names::proofs::DerivedOrder::nat_is))]
+fn compare_lengths(n: usize, m: usize) -> Ordering
+    ensures { result ≡ compare_ℕ n m }
+{
+    n.cmp(&m)
+}
+
 // "Names compare at the first tuple that differs; a proper prefix is smaller": the n tuples from p on in a with the m from q on in b, where
 // they stand. Names in bytes are compared here, but for `compare_to_one` and `follows`.
 pub fn compare_rows(a: &[u8], p: usize, n: usize, b: &[u8], q: usize, m: usize) -> Ordering
@@ -191,7 +199,7 @@ pub fn compare_rows(a: &[u8], p: usize, n: usize, b: &[u8], q: usize, m: usize) 
     // No `for`: 01 names the form of this place, "a loop that yields by break the index or the ordering at the first difference".
     loop {
         if most <= i {
-            break n.cmp(&m);
+            break compare_lengths(n, m);
         }
         let order = compare_tuples(a, p + TUPLE * i, b, q + TUPLE * i);
         if order.is_ne() {

@@ -1,5 +1,4 @@
 use Rattle.std.proofs.Common.{◌+◌, sym, refl, ◌∙◌, arith}
-use Rattle.names.proofs.DerivedOrder.{nat_is}
 use Rattle.slots.proofs.PackedTuples.{left_from, left_all, left_at, left_end, differs, agrees}
 use Rattle.slots.proofs.compare_rows.Goals as goal
 
@@ -29,4 +28,4 @@ loop-i-preserved c =
 pub returns-then-most-i : goal.returns-then-most-i
 returns-then-most-i c =
     let x = c.args in
-    c.cmp.ensures ∙ sym (nat_is x.n x.m) ∙ left_end x.a.now x.p x.n x.b.now x.q x.m c.loop-i.i (omega arith) ∙ c.loop-i.invariant.1
+    c.compare_lengths.ensures ∙ left_end x.a.now x.p x.n x.b.now x.q x.m c.loop-i.i (omega arith) ∙ c.loop-i.invariant.1
