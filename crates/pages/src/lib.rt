@@ -78,23 +78,31 @@ pub fn slot_ok(slot: &[u8]) -> bool
     slot.len() == SLOT && !matches!(look_along(slot, LIMIT), Seen::Broken)
 }
 
-// 1, 2; else the count of the slots, each with room for so many tuples.
-pub fn check_over(page: &[u8], room: usize) -> Answer
-    requires { room ≤ limit }
+// 1, 2; else the count of the slots, each with room for so many tuples: what the look at them comes to.
+fn check_looked(page: &[u8], room: usize, looked: Seen) -> Answer
+    requires { (room ≤ limit) × (looked ≡ seen_over room page.now) }
     ensures { result ≡ check_over room page.now }
 {
-    match look_over(page, room) {
+    match looked {
         Seen::Broken => Err(Refusal::BadLayout),
         Seen::NotRising => Err(Refusal::NotRising),
         Seen::Rising => Ok(page.len() / (HEAD + TUPLE * room)),
     }
 }
 
+// 1, 2; else the count of the slots, each with room for so many tuples.
+pub fn check_over(page: &[u8], room: usize) -> Answer
+    requires { room ≤ limit }
+    ensures { result ≡ check_over room page.now }
+{
+    check_looked(page, room, look_over(page, room))
+}
+
 // 1, 2; else the count of the page's slots.
 pub fn check_page(page: &[u8]) -> Answer
     ensures { result ≡ check_page page.now }
 {
-    check_over(page, LIMIT)
+    check_looked(page, LIMIT, look(page))
 }
 
 // The line number in a slot is 0.
