@@ -186,7 +186,7 @@ pub fn backs_rise(first: &[u8], a: Back, second: &[u8], b: Back, log: &[u8]) -> 
     let n = count_back(first, log, a);
     let m = count_back(second, log, b);
     for i in 0..n.min(m) {
-        match tuple_back(first, log, a, i).cmp(&tuple_back(second, log, b, i)) {
+        match names::compare_tuples(tuple_back(first, log, a, i), tuple_back(second, log, b, i)) {
             Ordering::Less => return true,
             Ordering::Equal => {}
             Ordering::Greater => return false,

@@ -12,7 +12,6 @@ use Rattle.names.specs.declared.Tuple.{Tuple}
 use Rattle.names.specs.Ordering.{Row, compare_tuples, compare_rows}
 use Rattle.std.specs.Ordering.{ordering_then, is_lt}
 use Rattle.names.specs.Names.{m}
-use Rattle.names.proofs.DerivedOrder.{tuples_ordered}
 use Rattle.names.proofs.CompareTuples.{left, left_same, left_less, left_more, left_at}
 use Rattle.renamed_slots.proofs.backs_rise.Goals as goal
 use Rattle.renamed_slots.proofs.backs_rise.Invariants.{back_of}
@@ -63,15 +62,15 @@ tuple_back-requires-in-loop-i c = (c.requires.first_value.1, c.requires.first_va
 
 pub loop-i-preserved : goal.loop-i-preserved
 loop-i-preserved c =
-    turn _ _ _ _ _ c.count_back-n.ensures c.count_back-m.ensures c.tuple_back.ensures c.tuple_back-in-loop-i.ensures (c.cmp.ensures ∙ tuples_ordered _ _) c.in-Equal.is (omega (arith, c.loop-i-test.true, c.min-i-end.ensures)) (omega (arith, c.loop-i-test.true, c.min-i-end.ensures)) ∙ c.loop-i.invariant
+    turn _ _ _ _ _ c.count_back-n.ensures c.count_back-m.ensures c.tuple_back.ensures c.tuple_back-in-loop-i.ensures c.compare_tuples.ensures c.in-Equal.is (omega (arith, c.loop-i-test.true, c.min-i-end.ensures)) (omega (arith, c.loop-i-test.true, c.min-i-end.ensures)) ∙ c.loop-i.invariant
 
 pub returns-in-Less : goal.returns-in-Less
 returns-in-Less c =
-    turn _ _ _ _ _ c.count_back-n.ensures c.count_back-m.ensures c.tuple_back.ensures c.tuple_back-in-loop-i.ensures (c.cmp.ensures ∙ tuples_ordered _ _) c.in-Less.is (omega (arith, c.loop-i-test.true, c.min-i-end.ensures)) (omega (arith, c.loop-i-test.true, c.min-i-end.ensures)) ∙ c.loop-i.invariant
+    turn _ _ _ _ _ c.count_back-n.ensures c.count_back-m.ensures c.tuple_back.ensures c.tuple_back-in-loop-i.ensures c.compare_tuples.ensures c.in-Less.is (omega (arith, c.loop-i-test.true, c.min-i-end.ensures)) (omega (arith, c.loop-i-test.true, c.min-i-end.ensures)) ∙ c.loop-i.invariant
 
 pub returns-in-Greater : goal.returns-in-Greater
 returns-in-Greater c =
-    turn _ _ _ _ _ c.count_back-n.ensures c.count_back-m.ensures c.tuple_back.ensures c.tuple_back-in-loop-i.ensures (c.cmp.ensures ∙ tuples_ordered _ _) c.in-Greater.is (omega (arith, c.loop-i-test.true, c.min-i-end.ensures)) (omega (arith, c.loop-i-test.true, c.min-i-end.ensures)) ∙ c.loop-i.invariant
+    turn _ _ _ _ _ c.count_back-n.ensures c.count_back-m.ensures c.tuple_back.ensures c.tuple_back-in-loop-i.ensures c.compare_tuples.ensures c.in-Greater.is (omega (arith, c.loop-i-test.true, c.min-i-end.ensures)) (omega (arith, c.loop-i-test.true, c.min-i-end.ensures)) ∙ c.loop-i.invariant
 
 pub returns : goal.returns
 returns c = ends _ _ _ _ _ c.count_back-n.ensures c.count_back-m.ensures (omega (arith, c.loop-i-test.false, c.loop-i.auto.i-end, c.min-i-end.ensures)) ∙ c.loop-i.invariant
