@@ -20,7 +20,7 @@ use Rattle.fields.specs.Fields.{field_head}
 use Rattle.groups.specs.Groups.{Group, size}
 use Rattle.groups.specs.Forms.{form_bytes, groups_in, group_stands}
 use Rattle.forms.specs.declared.Block.{Block}
-use Rattle.forms.specs.Blocks.{no_block, end_of, Stood as Stands}
+use Rattle.forms.specs.Blocks.{block_here, no_block, end_of, Stood as Stands}
 use Rattle.std.specs.Ordering.{is_eq, is_le}
 use Rattle.forms.proofs.BlockAt.{stood}
 use Rattle.form_edits.specs.declared.Met.{Met}
@@ -28,7 +28,7 @@ use Rattle.form_edits.specs.declared.Met.TheVariants.{Here, Inside, After}
 use Rattle.form_edits.specs.Choices.{group_at, met_in, after_block, precedes_in, goes_on}
 use Rattle.form_edits.specs.Edits.{Edited, place_in, preceded_in, next_in}
 use Rattle.form_edits.proofs.Zipper.{Preceded, first, second, Divided, none, some, divides}
-use Rattle.form_edits.proofs.LaidBlocks.{Laid, laid, there, stands_there, place_within}
+use Rattle.form_edits.proofs.LaidBlocks.{Laid, laid, stands_there, place_within}
 use Rattle.form_edits.proofs.MetNames.{met_inside, met_here}
 use Rattle.form_edits.proofs.Chosen.{Next, last, next, next_block, Found, before_all, at_group, Ends, ends, found_ends, bytes, is_group_lem, form_is, few, few_after, met_is}
 
@@ -48,6 +48,25 @@ laid_bounds fs g hs l f = record {
   some = l.long;
   named = ap is_name l.first ∙ l.named;
 }
+
+-- what stands at a place, a block or none, lies within the form
+at_stood : (s : Bytes) (p : ℕ) → Octets s → Stands s (group_at s p)
+at_stood s p k = go (group_stands (drop p s)) refl
+  where
+    go : (b : Bool) → group_stands (drop p s) ≡ b → Stands s (cond b (block_here s p) no_block)
+    go true e = stood s p e k
+    go false e = (omega arith, omega arith, omega arith)
+
+-- the block of the group before lies within the form, and has no more slots than have room in a field
+pub preceded_stood : (s slot : Bytes) → Octets s → Stands s (preceded_in s (name_of slot))
+preceded_stood s slot k = go (ltb 1 (place_in s (name_of slot)).groups)
+  where
+    p : ℕ
+    p = (place_in s (name_of slot)).before
+
+    go : (b : Bool) → Stands s (cond b (group_at s p) no_block)
+    go true = at_stood s p k
+    go false = (omega arith, omega arith, omega arith)
 
 module _ (s slot : Bytes) (k : Octets s) (so : Octets slot) (name : Span) (e : Edited s slot name) where
   abbrev x : Row
@@ -104,14 +123,6 @@ module _ (s slot : Bytes) (k : Octets s) (so : Octets slot) (name : Span) (e : E
               let u : preceded_in s x ≡ group_at s (length (form_bytes es)) = ap (λ (b : Bool). cond b (group_at s (place_in s x).before) no_block) (lt-ltb 1 (place_in s x).groups (omega arith)) ∙ ap (group_at s) n in
               subst (Bounds s) (sym u)
               (laid_bounds es d (g ∷ hs) (laid s k es d (g ∷ hs) (form_is s slot k so name e es d (g ∷ hs) p) (is_group_lem s slot k so name e es d (g ∷ hs) p)) (few s slot k so name e es d (g ∷ hs) p))
-
-  -- which lies within the form, and has no more slots than have room in a field
-  pub preceded_stood : Stands s (preceded_in s x)
-  preceded_stood = go (ltb 1 (place_in s x).groups) refl
-    where
-      go : (b : Bool) → ltb 1 (place_in s x).groups ≡ b → Stands s (cond b (group_at s (place_in s x).before) no_block)
-      go true t = let h = preceded_stands t in subst (Stands s) (sym (there s (place_in s x).before h.1)) (stood s (place_in s x).before h.1 k)
-      go false t = (omega arith, omega arith, omega arith)
 
   module _ (b : Block) (v : Found s slot k so name e b) where
     pub block_within : end_of b ≤ length s

@@ -99,7 +99,7 @@ goes_on-requires c =
     λ l. subst (Bounds c.args.form.now) (sym c.requires.edited.1)
     (preceded_bounds c.args.form.now c.args.slot.now octets slot_octets c.args.name c.requires.edited.0 (let m = ap (λ (x : Block). x.count) c.requires.edited.1 in omega arith)) in
     let s = c.args.form.now in
-    let w = preceded_stood s c.args.slot.now octets slot_octets c.args.name c.requires.edited.0 in
+    let w = preceded_stood s c.args.slot.now octets in
     record {
       within = (subst (λ (x : Block). Within s x.name) (sym c.requires.edited.1) w.0, λ l. (prior l).named, subst (λ (x : Block). x.count ≤ 65535) (sym c.requires.edited.1) (let n = w.2 in omega arith));
       within_2 = (c.block_by-next.ensures.stood.0, λ l. (after l).named);
