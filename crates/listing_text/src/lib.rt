@@ -149,8 +149,9 @@ fn put_lines(out: &mut [u8], p: usize, page: &[u8]) -> usize
 {
     let (slots, _) = page.as_chunks::<SLOT>();
     let mut q = p;
-    for slot in slots {
-        q = put_line(out, q, slot);
+    // By index: how many lines are written is what the loop keeps.
+    for k in 0..slots.len() {
+        q = put_line(out, q, &slots[k]);
     }
     q
 }

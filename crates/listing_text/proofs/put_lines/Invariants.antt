@@ -6,6 +6,6 @@ use Rattle.listing_text.specs.Listing.{lines_text, line_room}
 use Rattle.listing_text.proofs.Wrote.{Wrote}
 use Rattle.listing_text.proofs.put_lines.Given as goal
 
-abbrev pub invariant-loop-slot : goal.invariant-loop-slot
-invariant-loop-slot l =
-    (l.q ≤ l.p + line_room * l.slot-index) × Wrote l.initial.out l.p (lines_text (take l.slot-index (slots_of l.page))) l.q l.out
+abbrev pub invariant-loop-k : goal.invariant-loop-k
+invariant-loop-k l =
+    (l.q ≤ l.p + line_room * l.k) × Wrote l.initial.out l.p (lines_text (take l.k (slots_of l.page))) l.q l.out
