@@ -151,11 +151,11 @@ uint64_t kadalumbir_take_back(const uint8_t *page, size_t page_len, const uint8_
 
 /* ---- old pages: the count is that of the slots, which keep their order, their names and their line numbers in `out` */
 
-/* Writes the old page as a page. Refuses 1, 2, 8. Stack: 180 bytes. */
+/* Writes the old page as a page. Refuses 1, 2, 8. Stack: 170 bytes. */
 uint64_t kadalumbir_from_old(const uint8_t *old, size_t old_len, uint8_t *out, size_t out_len);
 
 /* Writes the page as an old page, where every name has at most 8 tuples.
- * Refuses 1, 2, 6, 8. Stack: 180 bytes. */
+ * Refuses 1, 2, 6, 8. Stack: 170 bytes. */
 uint64_t kadalumbir_to_old(const uint8_t *page, size_t page_len, uint8_t *out, size_t out_len);
 
 /* ---- epochs: each entry of the table but the first is the rename of its node and sequence. Epochs compare by their paths
