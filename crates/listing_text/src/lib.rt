@@ -149,7 +149,7 @@ fn put_lines(out: &mut [u8], p: usize, page: &[u8]) -> usize
 {
     let (slots, _) = page.as_chunks::<SLOT>();
     let mut q = p;
-    // By index: how many lines are written is what the loop keeps.
+    // By index, so that an edit that leaves out the first slot (must-fail/first_slot_unlisted) is refused for what it lists.
     for k in 0..slots.len() {
         q = put_line(out, q, &slots[k]);
     }
